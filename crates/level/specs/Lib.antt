@@ -1,0 +1,9 @@
+pub mod Kind
+pub mod Dual
+pub mod Lattice
+pub mod Truths
+pub mod Chain
+pub mod Pairs
+pub mod Flags
+pub mod Delivered
+pub mod Sides

@@ -1,0 +1,13 @@
+pub mod Around
+pub mod Seen
+pub mod Adjoint
+pub mod Chains
+pub mod Morphologies
+pub mod Listed
+pub mod Selected
+pub mod Selections
+pub mod Steps
+pub mod Admitted
+pub mod Runs
+pub mod Mirrors
+pub mod Limited

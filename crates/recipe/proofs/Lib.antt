@@ -1,0 +1,12 @@
+pub mod Gathered
+pub mod Turning
+pub mod Stacks
+pub mod Refusing
+pub mod Reading
+pub mod Checking
+pub mod Passing
+pub mod Machining
+pub mod Mirroring
+pub mod Admitting
+pub mod Settling
+pub mod Bounding

@@ -1,0 +1,13 @@
+pub mod Elements
+pub mod Steps
+pub mod Names
+pub mod Machines
+pub mod Depths
+pub mod Sheets
+pub mod Refusals
+pub mod Plans
+pub mod Tables
+pub mod Answers
+pub mod Planned
+pub mod Mirrors
+pub mod Laws

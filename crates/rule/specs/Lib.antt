@@ -1,0 +1,9 @@
+pub mod Ranks
+pub mod Fractions
+pub mod Criterion
+pub mod Windows
+pub mod Flipped
+pub mod Variance
+pub mod Range
+pub mod Choice
+pub mod Views
