@@ -3,6 +3,7 @@ use mathlib.Core.Path.{refl}
 use Rattle.rule.specs.Criterion.{Criterion}
 use Rattle.recipe.specs.Elements.{gather}
 use Rattle.examples.specs.Rows.{Folded-rows, Selected-rows, Other-levels}
+use Rattle.examples.specs.Sheets.{Listed}
 
 pub folded-rows : (C : Criterion) → Folded-rows C
 unfolding gather
@@ -29,3 +30,7 @@ selected-rows = record { variance-low = refl; variance-high = refl; range-low = 
 
 pub other-levels : Other-levels
 other-levels = record { height-low = refl; height-high = refl; label-meet = refl; label-join = refl; label-negation = refl }
+
+pub listed : Listed
+unfolding gather
+listed = record { first = refl; second = refl; third = refl; fourth = refl; fifth = refl; sixth = refl; last = refl; sheet = refl }

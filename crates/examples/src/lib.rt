@@ -2,6 +2,7 @@
 ghost use Rattle.rule.specs.Variance.{least-variance};
 ghost use Rattle.rule.specs.Range.{least-range};
 ghost use Rattle.examples.specs.Rows.{Folded-rows, Selected-rows, Other-levels};
+ghost use Rattle.examples.specs.Sheets.{Listed};
 
 // The definitions of the steps give the rows that were worked out by hand.
 pub fn worked_rows() -> u8
@@ -9,6 +10,13 @@ pub fn worked_rows() -> u8
     ensures range { λ _. ⌜ Folded-rows least-range ⌝ }
     ensures selected { λ _. ⌜ Selected-rows ⌝ }
     ensures others { λ _. ⌜ Other-levels ⌝ }
+{
+    0
+}
+
+// The definitions of the sheet give the listing of the shipped recipe.
+pub fn worked_sheet() -> u8
+    ensures { λ _. ⌜ Listed ⌝ }
 {
     0
 }
