@@ -41,7 +41,8 @@ fn filter_in_place<L: Level, W: Way, V: Way>(
     requires { ⌜ Apart (length (now block)) at (places (size-of extent)) scratch (places (size-of extent)) ⌝ }
     ensures { λ _. ⌜ Changed (L·Level .kind) (L·Level .meaning) (size-of extent) (λ f. folded (L·Level .kind) (size-of extent) (V·Way .side) (offsets element) (folded (L·Level .kind) (size-of extent) (W·Way .side) (turned (offsets element)) f)) at scratch (now (block .entry)) (now (block .exit)) ⌝ }
 {
-    fold_plane::<L, W>(block, at, scratch, extent, element.turned());
+    let turned = element.turned();
+    fold_plane::<L, W>(block, at, scratch, extent, turned);
     fold_plane::<L, V>(block, scratch, at, extent, element);
 }
 

@@ -18,5 +18,5 @@ returns g c =
     let K = g .L·Level .kind in
     let s = size-of (c .args .extent) in
     let E = offsets (c .args .element) in
-    made-twice (folded K s (g .W·Way .side) (turned E)) (λ f p. folded-offsets K s (g .W·Way .side) _ (turned E) f p (c .turned .ensures .offsets))
+    made-twice (folded K s (g .W·Way .side) (turned E)) (λ f p. folded-offsets K s (g .W·Way .side) _ (turned E) f p (c .turned-turned .ensures .offsets))
     (c .fold-plane .ensures) (c .fold-plane-2 .ensures)

@@ -1,0 +1,9 @@
+pub mod Moving
+pub mod Running
+pub mod Working
+pub mod Rastered
+pub mod Behinds
+pub mod Pictured
+pub mod Sound
+pub mod Promised
+pub mod Mirrored
