@@ -22,9 +22,9 @@ pub trait Coded: Copy {
 
 /// Everything goes by the codes.
 impl<X: Coded> Level for X {
-    ghost kind = { Self.Code.Level.kind };
+    ghost kind = { X.Code.Level.kind };
 
-    ghost meaning = { λ x. Self.Code.Level.meaning (X.Coded.coded x) };
+    ghost meaning = { λ x. X.Code.Level.meaning (X.Coded.coded x) };
 
     fn at_most(self, other: X) -> bool {
         self.code().at_most(other.code())

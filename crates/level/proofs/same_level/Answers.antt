@@ -9,4 +9,4 @@ returns g c =
     Decides-like _
     (λ h. K.antisymmetric _ _ h.0 h.1)
     (λ e. ((laws K).same_below _ _ e, (laws K).same_below _ _ (sym e)))
-    (Decides-and _ _ c.at-most.ensures c.at-most-2.ensures)
+    (Decides-and _ _ c.at_most.ensures c.at_most-2.ensures)

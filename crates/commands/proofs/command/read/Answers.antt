@@ -13,8 +13,8 @@ by_name text r some no_note named =
 pub returns : goal.returns
 returns c =
     let text = c.trimmed-line.result.now in
-    let starts = starts_char 35 text c.starts-with.result c.starts-with.ensures.cases (omega arith) (omega arith) in
-    let no_note : eqb (get_or text 0 0) 35 ≡ false = ne_eqb _ _ (λ e. clash (sym c.if-starts-with.false ∙ starts.1 e)) in
-    let some : eqb (length text) 0 ≡ false = sym c.is-empty.ensures ∙ c.if-is-empty.false in
+    let starts = starts_char 35 text c.starts_with.result c.starts_with.ensures.cases (omega arith) (omega arith) in
+    let no_note : eqb (get_or text 0 0) 35 ≡ false = ne_eqb _ _ (λ e. clash (sym c.if-starts_with.false ∙ starts.1 e)) in
+    let some : eqb (length text) 0 ≡ false = sym c.is_empty.ensures ∙ c.if-is_empty.false in
     subst (λ t. AsksTrimmed t (asked_by c.named.result)) c.trimmed-line.ensures
     (by_name text (asked_by c.named.result) some no_note c.named.ensures)

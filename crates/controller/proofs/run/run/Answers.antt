@@ -6,11 +6,11 @@ use Rattle.controller.proofs.Calling.{not_admitted, not_alike, not_laid, taken, 
 use Rattle.controller.proofs.Sparing.{stepped_past, laid_past, run_past}
 use Rattle.controller.proofs.run.run.Goals as goal
 
-pub returns-in-err-admit : goal.returns-in-err-admit
-returns-in-err-admit g c =
+pub returns-in_err-admit : goal.returns-in_err-admit
+returns-in_err-admit g c =
     let p = err_from_is_err_and c.from-residual.result c.from-residual.ensures.1 in
     let s = setting c.args.width c.args.height (length c.args.block.now) in
-    let b = c.in-err-admit.ensures.happens s [] c.new-cell.ensures.behind in
+    let b = c.in_err-admit.ensures.happens s [] c.new-cell.ensures.behind in
     rw (p.1, p.2) (record {
       answer = not_admitted g.Pixel.Level.kind g.Selector.Rule.criterion s c.args.recipe.now (map g.Pixel.Level.meaning c.args.frame.now) (length c.args.out.now) _ b.can.1;
       output = refl;
@@ -21,7 +21,7 @@ pub returns-then-out-frame : goal.returns-then-out-frame
 returns-then-out-frame g c =
     let m = g.Pixel.Level.meaning in
     let s = setting c.args.width c.args.height (length c.args.block.now) in
-    let b = c.in-ok-admit.ensures.happens s [] c.new-cell.ensures.behind in
+    let b = c.in_ok-admit.ensures.happens s [] c.new-cell.ensures.behind in
     record {
       answer = not_alike g.Pixel.Level.kind g.Selector.Rule.criterion s c.args.recipe.now (map m c.args.frame.now) (length c.args.out.now) _ b.can.1
           (λ e. omega (arith, length-map c.args.frame.now m));
@@ -29,15 +29,15 @@ returns-then-out-frame g c =
       block = search rules;
     }
 
-pub returns-in-err-slip : goal.returns-in-err-slip
-returns-in-err-slip g c =
-    let p = err_from_is_err_and c.from-residual-in-err-slip.result c.from-residual-in-err-slip.ensures.1 in
+pub returns-in_err-slip : goal.returns-in_err-slip
+returns-in_err-slip g c =
+    let p = err_from_is_err_and c.from-residual-in_err-slip.result c.from-residual-in_err-slip.ensures.1 in
     let K = g.Pixel.Level.kind in
     let C = g.Selector.Rule.criterion in
     let s = setting c.args.width c.args.height (length c.args.block.now) in
     let f = map g.Pixel.Level.meaning c.args.frame.now in
-    let b1 = c.in-ok-admit.ensures.happens s [] c.new-cell.ensures.behind in
-    let b2 = c.in-err-slip.ensures.happens s _ b1 in
+    let b1 = c.in_ok-admit.ensures.happens s [] c.new-cell.ensures.behind in
+    let b2 = c.in_err-slip.ensures.happens s _ b1 in
     rw (p.1, p.2) (record {
       answer = not_laid K C s c.args.recipe.now f (length c.args.out.now) _ b1.can.1 _ b2.can.1;
       output = refl;
@@ -51,8 +51,8 @@ unreachable-requires g c =
     let m = g.Pixel.Level.meaning in
     let s = setting c.args.width c.args.height (length c.args.block.now) in
     let f = map m c.args.frame.now in
-    let b1 = c.in-ok-admit.ensures.happens s [] c.new-cell.ensures.behind in
-    let b2 = c.in-ok-slip.ensures.happens s _ b1 in
+    let b1 = c.in_ok-admit.ensures.happens s [] c.new-cell.ensures.behind in
+    let b2 = c.in_ok-slip.ensures.happens s _ b1 in
     let b3 = c.step.ensures.happens s _ b2 in
     let b4 = c.in-Err.ensures.happens s _ b3 in
     never_refused K C s c.args.recipe.now f (length c.args.out.now) _ b1.can.1 b2.can.1 _ (omega arith) _ _ b3.can.1 b4.can.1
@@ -65,8 +65,8 @@ returns g c =
     let m = g.Pixel.Level.meaning in
     let s = setting c.args.width c.args.height (length c.args.block.now) in
     let f = map m c.args.frame.now in
-    let b1 = c.in-ok-admit.ensures.happens s [] c.new-cell.ensures.behind in
-    let b2 = c.in-ok-slip.ensures.happens s _ b1 in
+    let b1 = c.in_ok-admit.ensures.happens s [] c.new-cell.ensures.behind in
+    let b2 = c.in_ok-slip.ensures.happens s _ b1 in
     let b3 = c.step.ensures.happens s _ b2 in
     let b4 = c.in-Ok.ensures.happens s _ b3 in
     let sheet = has_sheet K C s c.args.recipe.now f (length c.args.out.now) _ b1.can.1 in
@@ -74,8 +74,8 @@ returns g c =
     record {
       answer = taken K C s c.args.recipe.now f (length c.args.out.now) _ b1.can.1 b2.can.1 _ (omega arith) _ _ b3.can.1 b4.can.1;
       output = tt;
-      block = run_past _ c.args.block.now _ _ _ _ (c.in-ok-admit.ensures.block ∙ c.new-cell.ensures.block)
-          (laid_past s sheet.0 _ c.args.frame.now _ _ sheet.1 (sym (length-map c.args.frame.now m) ∙ long) c.in-ok-slip.ensures.block)
+      block = run_past _ c.args.block.now _ _ _ _ (c.in_ok-admit.ensures.block ∙ c.new-cell.ensures.block)
+          (laid_past s sheet.0 _ c.args.frame.now _ _ sheet.1 (sym (length-map c.args.frame.now m) ∙ long) c.in_ok-slip.ensures.block)
           (stepped_past K m C s _ _ _ _ _ b2 c.step.ensures.block)
           (search rules);
     }

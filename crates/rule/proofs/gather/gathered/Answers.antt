@@ -8,7 +8,7 @@ pub returns-in-Some : goal.returns-in-Some
 returns-in-Some c =
     let w = c.in-Some.window in
     let r = c.args.rank in
-    let same : (rs : List ℕ) → Gathered c.args.so-far rs → seen w ≡ numbers rs
+    let same : (rs : List ℕ) → Gathered c.args.so_far rs → seen w ≡ numbers rs
     = λ rs h. subst (λ o. Gathered o rs) c.in-Some.is h in
     let some : (rs : List ℕ) → seen w ≡ numbers rs → 1 ≤ length rs = λ rs e. subst (λ v. 1 ≤ v.count) e w.some in
     record {

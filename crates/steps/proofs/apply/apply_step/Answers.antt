@@ -4,17 +4,17 @@ use Rattle.recipe.specs.Steps.{form, reads_ranks, folding, filtering, selecting,
 use Rattle.steps.proofs.Stacking.{top_fits, scratch_fits, few_planes, frame_apart, scratch_apart, two_apart, started, negated_top, changed_top, merged_top}
 use Rattle.steps.proofs.apply.apply_step.Goals as goal
 
-pub overflow-mul-top : goal.overflow-mul-top
-overflow-mul-top g c = let fits = top_fits c.places-n.ensures.value c.requires in omega arith
+pub overflow_mul-top : goal.overflow_mul-top
+overflow_mul-top g c = let fits = top_fits c.places-n.ensures.value c.requires in omega arith
 
-pub overflow-add-scratch : goal.overflow-add-scratch
-overflow-add-scratch g c = let fits = few_planes c.places-n.ensures.value c.requires c.args.extent.columns c.args.extent.rows in omega arith
+pub overflow_add-scratch : goal.overflow_add-scratch
+overflow_add-scratch g c = let fits = few_planes c.places-n.ensures.value c.requires c.args.extent.columns c.args.extent.rows in omega arith
 
-pub overflow-mul-scratch : goal.overflow-mul-scratch
-overflow-mul-scratch g c = let fits = scratch_fits c.places-n.ensures.value c.requires in omega arith
+pub overflow_mul-scratch : goal.overflow_mul-scratch
+overflow_mul-scratch g c = let fits = scratch_fits c.places-n.ensures.value c.requires in omega arith
 
-pub overflow-add-top : goal.overflow-add-top
-overflow-add-top g c = let fits = top_fits c.places-n.ensures.value c.requires in omega arith
+pub overflow_add-top : goal.overflow_add-top
+overflow_add-top g c = let fits = top_fits c.places-n.ensures.value c.requires in omega arith
 
 pub copy-requires : goal.copy-requires
 copy-requires g c = frame_apart c.places-n.ensures.value c.requires (ap form c.in-Frame.is)
@@ -46,22 +46,22 @@ select-requires-in-SelectHigh g c = record {
   planes = scratch_apart c.places-n.ensures.value c.requires;
 }
 
-pub bound-planes-requires : goal.bound-planes-requires
-bound-planes-requires g c = two_apart c.places-n.ensures.value c.requires (bounding Low) _ (ap form c.in-Meet.is) c.saturating-sub-below.ensures
+pub bound_planes-requires : goal.bound_planes-requires
+bound_planes-requires g c = two_apart c.places-n.ensures.value c.requires (bounding Low) _ (ap form c.in-Meet.is) c.saturating_sub-below.ensures
 
-pub bound-planes-requires-in-Join : goal.bound-planes-requires-in-Join
-bound-planes-requires-in-Join g c = two_apart c.places-n.ensures.value c.requires (bounding High) _ (ap form c.in-Join.is) c.saturating-sub-below.ensures
+pub bound_planes-requires-in-Join : goal.bound_planes-requires-in-Join
+bound_planes-requires-in-Join g c = two_apart c.places-n.ensures.value c.requires (bounding High) _ (ap form c.in-Join.is) c.saturating_sub-below.ensures
 
-pub average-planes-requires : goal.average-planes-requires
-average-planes-requires g c = record {
+pub average_planes-requires : goal.average_planes-requires
+average_planes-requires g c = record {
   ranked = c.requires.ranked (ap (λ x. reads_ranks (form x)) c.in-MeanLow.is);
-  planes = two_apart c.places-n.ensures.value c.requires (averaging Low) _ (ap form c.in-MeanLow.is) c.saturating-sub-below.ensures;
+  planes = two_apart c.places-n.ensures.value c.requires (averaging Low) _ (ap form c.in-MeanLow.is) c.saturating_sub-below.ensures;
 }
 
-pub average-planes-requires-in-MeanHigh : goal.average-planes-requires-in-MeanHigh
-average-planes-requires-in-MeanHigh g c = record {
+pub average_planes-requires-in-MeanHigh : goal.average_planes-requires-in-MeanHigh
+average_planes-requires-in-MeanHigh g c = record {
   ranked = c.requires.ranked (ap (λ x. reads_ranks (form x)) c.in-MeanHigh.is);
-  planes = two_apart c.places-n.ensures.value c.requires (averaging High) _ (ap form c.in-MeanHigh.is) c.saturating-sub-below.ensures;
+  planes = two_apart c.places-n.ensures.value c.requires (averaging High) _ (ap form c.in-MeanHigh.is) c.saturating_sub-below.ensures;
 }
 
 pub returns-in-Frame : goal.returns-in-Frame
@@ -96,16 +96,16 @@ returns-in-SelectHigh g c =
 
 pub returns-in-Meet : goal.returns-in-Meet
 returns-in-Meet g c =
-    merged_top c.places-n.ensures.value c.requires (bounding Low) _ (ap form c.in-Meet.is) c.saturating-sub-below.ensures c.bound-planes.ensures
+    merged_top c.places-n.ensures.value c.requires (bounding Low) _ (ap form c.in-Meet.is) c.saturating_sub-below.ensures c.bound_planes.ensures
 
 pub returns-in-Join : goal.returns-in-Join
 returns-in-Join g c =
-    merged_top c.places-n.ensures.value c.requires (bounding High) _ (ap form c.in-Join.is) c.saturating-sub-below.ensures c.bound-planes-in-Join.ensures
+    merged_top c.places-n.ensures.value c.requires (bounding High) _ (ap form c.in-Join.is) c.saturating_sub-below.ensures c.bound_planes-in-Join.ensures
 
 pub returns-in-MeanLow : goal.returns-in-MeanLow
 returns-in-MeanLow g c =
-    merged_top c.places-n.ensures.value c.requires (averaging Low) _ (ap form c.in-MeanLow.is) c.saturating-sub-below.ensures c.average-planes.ensures
+    merged_top c.places-n.ensures.value c.requires (averaging Low) _ (ap form c.in-MeanLow.is) c.saturating_sub-below.ensures c.average_planes.ensures
 
 pub returns-in-MeanHigh : goal.returns-in-MeanHigh
 returns-in-MeanHigh g c =
-    merged_top c.places-n.ensures.value c.requires (averaging High) _ (ap form c.in-MeanHigh.is) c.saturating-sub-below.ensures c.average-planes-in-MeanHigh.ensures
+    merged_top c.places-n.ensures.value c.requires (averaging High) _ (ap form c.in-MeanHigh.is) c.saturating_sub-below.ensures c.average_planes-in-MeanHigh.ensures

@@ -3,34 +3,34 @@ use Rattle.std.proofs.lemmas.Bool.{and_parts}
 use Rattle.steps.specs.Planes.{size_of}
 use Rattle.steps.proofs.Folding.{row_there, upto_none, upto_skip, upto_more, upto_all}
 use Rattle.steps.proofs.fold.fold_row.Goals as goal
-use Rattle.steps.proofs.fold.fold_row.Goals.{then-has-is-among, else-has-is-among}
+use Rattle.steps.proofs.fold.fold_row.Goals.{then-has-is_among, else-has-is_among}
 
 pub loop-b-init : goal.loop-b-init
 loop-b-init g c = upto_none _ _ c.start.ensures _ c.fill.ensures
 
-pub overflow-add-from : goal.overflow-add-from
-overflow-add-from g c =
+pub overflow_add-from : goal.overflow_add-from
+overflow_add-from g c =
     omega (
       arith,
       row_there (length c.loop-b.block) c.args.from c.args.to c.args.extent.width c.args.extent.height _
-          (sym c.is-among.ensures ∙ (and_parts _ _ c.if-has-is-among.true).1) (search rules),
+          (sym c.is_among.ensures ∙ (and_parts _ _ c.if-has-is_among.true).1) (search rules),
     )
 
-pub bound-row-requires : goal.bound-row-requires
-bound-row-requires g c = record {
+pub bound_row-requires : goal.bound_row-requires
+bound_row-requires g c = record {
   step = omega arith;
   narrow = omega arith;
-  rows = row_there _ _ _ _ c.args.extent.height _ (sym c.is-among.ensures ∙ (and_parts _ _ c.if-has-is-among.true).1) (search rules);
+  rows = row_there _ _ _ _ c.args.extent.height _ (sym c.is_among.ensures ∙ (and_parts _ _ c.if-has-is_among.true).1) (search rules);
 }
 
 pub loop-b-preserved : goal.loop-b-preserved
 loop-b-preserved g c =
-    elim c.if-has-is-among.branch [
-      | then-has-is-among w ↦
-          upto_more _ _ _ _ _ c.loop-b.invariant (sym (ap₂ ◌&&◌ (c.has.ensures.0 (omega arith)) c.is-among.ensures) ∙ w.if-has-is-among.true)
-          w.bound-row.ensures w.block-is (search rules)
-      | else-has-is-among w ↦
-          upto_skip _ _ _ _ c.loop-b.invariant (sym (ap₂ ◌&&◌ (c.has.ensures.0 (omega arith)) c.is-among.ensures) ∙ w.if-has-is-among.false) w.block-is
+    elim c.if-has-is_among.branch [
+      | then-has-is_among w ↦
+          upto_more _ _ _ _ _ c.loop-b.invariant (sym (ap₂ ◌&&◌ (c.has.ensures.0 (omega arith)) c.is_among.ensures) ∙ w.if-has-is_among.true)
+          w.bound_row.ensures w.block-is (search rules)
+      | else-has-is_among w ↦
+          upto_skip _ _ _ _ c.loop-b.invariant (sym (ap₂ ◌&&◌ (c.has.ensures.0 (omega arith)) c.is_among.ensures) ∙ w.if-has-is_among.false) w.block-is
     ]
 
 pub returns : goal.returns

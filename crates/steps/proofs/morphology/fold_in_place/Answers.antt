@@ -10,4 +10,4 @@ copy-requires g c = record {
 }
 
 pub returns : goal.returns
-returns g c = made_back _ c.places.ensures.value c.fold-plane.ensures c.copy.ensures
+returns g c = made_back _ c.places.ensures.value c.fold_plane.ensures c.copy.ensures

@@ -12,7 +12,7 @@ pub loop-i-preserved : goal.loop-i-preserved
 loop-i-preserved g c =
     merging_more g.L.Level.kind g.L.Level.meaning (mean g.L.Level.kind c.args.side) c.args.lower c.args.upper _ _ _ _ _ _ _ c.loop-i.invariant (omega arith)
     (record { first = omega arith; second = omega arith; apart = ⊎_elim (λ l. inl (omega arith)) (λ l. inr (omega arith)) c.requires.planes.apart })
-    c.index-block-lower.is c.index-block-upper.is c.mean-level.ensures
+    c.index-block-lower.is c.index-block-upper.is c.mean_level.ensures
 
 pub returns : goal.returns
 returns g c =

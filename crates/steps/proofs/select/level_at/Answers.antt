@@ -3,11 +3,11 @@ use Rattle.std.proofs.lemmas.List.{get_or_read}
 use Rattle.steps.proofs.Written.{row_fits}
 use Rattle.steps.proofs.select.level_at.Goals as goal
 
-pub overflow-add-result-2 : goal.overflow-add-result-2
-overflow-add-result-2 g c = omega (arith, row_fits c.args.extent.width c.args.extent.height c.args.y c.requires.row)
+pub overflow_add-result-2 : goal.overflow_add-result-2
+overflow_add-result-2 g c = omega (arith, row_fits c.args.extent.width c.args.extent.height c.args.y c.requires.row)
 
-pub offset-bounds-block-at : goal.offset-bounds-block-at
-offset-bounds-block-at g c = omega (arith, row_fits c.args.extent.width c.args.extent.height c.args.y c.requires.row)
+pub offset_bounds-block-at : goal.offset_bounds-block-at
+offset_bounds-block-at g c = omega (arith, row_fits c.args.extent.width c.args.extent.height c.args.y c.requires.row)
 
 pub bounds-block-at : goal.bounds-block-at
 bounds-block-at g c = omega (arith, row_fits c.args.extent.width c.args.extent.height c.args.y c.requires.row)

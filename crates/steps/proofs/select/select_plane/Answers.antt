@@ -11,8 +11,8 @@ use Rattle.steps.proofs.select.select_plane.Goals as goal
 pub loop-i-init : goal.loop-i-init
 loop-i-init g c = partly_none
 
-pub selected-at-requires : goal.selected-at-requires
-selected-at-requires g c = record {
+pub selected_at-requires : goal.selected_at-requires
+selected_at-requires g c = record {
   ranked = c.requires.ranked;
   plane = omega arith;
   column = mod_below c.loop-i.i c.args.extent.width (omega arith);
@@ -27,7 +27,7 @@ loop-i-preserved g c =
     let s = size_of c.args.extent in
     let n : c.places-n.result ≡ places s = c.places-n.ensures.value in
     partly_more _ _ _ c.loop-i.invariant (omega arith) (omega arith)
-    (λ d f held. c.selected-at.ensures f
+    (λ d f held. c.selected_at.ensures f
     (holds_kept K m s c.args.from c.args.to c.places-n.result _ _ f
     (λ k h. ⊎_elim (λ l. omega arith) (λ l. omega arith) c.requires.planes.apart) c.loop-i.invariant.kept held))
 

@@ -8,7 +8,7 @@ use Rattle.steps.proofs.select.widened.Goals as goal
 pub returns-in-None : goal.returns-in-None
 returns-in-None c rs few was =
     let none : rs ≡ [] = subst (WindowOf rs) c.in-None.is was in
-    c.of-rank.ensures ∙ (numbers_single c.args.rank ∙ ap (λ xs. numbers (xs ++ (c.args.rank ∷ []))) (sym none))
+    c.of_rank.ensures ∙ (numbers_single c.args.rank ∙ ap (λ xs. numbers (xs ++ (c.args.rank ∷ []))) (sym none))
 
 pub returns-in-Some : goal.returns-in-Some
 returns-in-Some c rs few was =

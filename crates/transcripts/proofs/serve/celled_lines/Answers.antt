@@ -24,13 +24,13 @@ pub loop-i-preserved : goal.loop-i-preserved
 loop-i-preserved g c =
     let line = c.read.result in
     let read = subst (λ t. LineRead t (heard line)) c.deref.ensures.value c.read.ensures in (
-      c.celled-line.ensures.tidy,
+      c.celled_line.ensures.tidy,
       λ s h w b.
           let f = c.loop-i.invariant.1 s h w b in
-          let e = c.in-ok-answer.ensures.served s f.0 w f.1 in
+          let e = c.in_ok-answer.ensures.served s f.0 w f.1 in
           let serves = Celled g.Pixel.Level.kind g.Pixel.Level.meaning g.Selector.Rule.criterion g.Pixel.Written.spells g.Pixel.Written.text s in
-          let more = so_far_more serves vec_items c.args.lines.now h c.args.from f.0 e.0 c.loop-i.i (string_bytes c.loop-i.text) (string_bytes c.in-ok-answer.answer) c.index-lines-i.result line c.loop-i-test.true c.index-lines-i.is read c.in-default.not-Cell e.1 f.2 in
-          (e.0, e.2, subst (SoFar serves vec_items c.args.lines.now h c.args.from e.0 (c.loop-i.i + 1)) (sym (c.in-ok-push-str.ensures.bytes ∙ ap (λ t. string_bytes c.loop-i.text ++ t) c.as-str.ensures.value)) more),
+          let more = so_far_more serves vec_items c.args.lines.now h c.args.from f.0 e.0 c.loop-i.i (string_bytes c.loop-i.text) (string_bytes c.in_ok-answer.answer) c.index-lines-i.result line c.loop-i-test.true c.index-lines-i.is read c.in_default.not-Cell e.1 f.2 in
+          (e.0, e.2, subst (SoFar serves vec_items c.args.lines.now h c.args.from e.0 (c.loop-i.i + 1)) (sym (c.in_ok-push_str.ensures.bytes ∙ ap (λ t. string_bytes c.loop-i.text ++ t) c.as_str.ensures.value)) more),
     )
 
 pub returns : goal.returns

@@ -5,8 +5,8 @@ use Rattle.recipe.specs.Depths.{deeper, runs}
 use Rattle.cell.proofs.Running.{next_step, next_room, next_sound}
 use Rattle.cell.proofs.run.Run.advanced.Goals as goal
 
-pub invariant-of-result : goal.invariant-of-result
-invariant-of-result c =
+pub invariant_of-result : goal.invariant_of-result
+invariant_of-result c =
     let r = c.args.self in
     let deep : c.deepened-depth.result ≡ deeper (form (next_step r)) r.depth =
     c.deepened-depth.ensures ∙ ap (λ (x : Step). deeper (form x) r.depth) c.step.ensures in

@@ -9,8 +9,8 @@ loop-b-init c = turns_none c.args.self.bits
 pub loop-b-preserved : goal.loop-b-preserved
 loop-b-preserved c = turns_more c.args.self.bits c.loop-b.b c.loop-b.turned c.loop-b.invariant
 
-pub overflow-mul-turned : goal.overflow-mul-turned
-overflow-mul-turned c =
+pub overflow_mul-turned : goal.overflow_mul-turned
+overflow_mul-turned c =
     let small : 2 ^ c.loop-b.b < 2 ^ 25 = pow_below c.loop-b.b 25 c.loop-b-test.true in
     let below = c.loop-b.invariant.narrow in
     search rules

@@ -16,36 +16,36 @@ recorded bytes i a e =
     let eight : 8 ≡ 8 * i + 8 - 8 * i = omega arith in
     ap (λ n. reads i (take n (drop (8 * i) bytes))) eight ∙ sym e
 
-pub returns-in-err-step : goal.returns-in-err-step
-returns-in-err-step c =
+pub returns-in_err-step : goal.returns-in_err-step
+returns-in_err-step c =
     let p = err_from_is_err_and c.from-residual.result c.from-residual.ensures.1 in
     let bytes = c.args.bytes.now in
     let i = c.loop-i.i in
-    let r = record_refusal c.in-err-step.field-0.0 in
-    let read = recorded bytes i _ c.in-err-step.ensures in
+    let r = record_refusal c.in_err-step.field-0.0 in
+    let read = recorded bytes i _ c.in_err-step.ensures in
     let at = read_refused c.args.ranked bytes (length bytes / 8) i (progress c.loop-i.table) c.loop-i-test.true r read in
     rw (p.1, p.2) (record { answer = stopped c.args.ranked bytes c.if-length.false r (c.loop-i.invariant.0 ∙ at); plan = tt })
 
-pub returns-in-err-place : goal.returns-in-err-place
-returns-in-err-place c =
-    let p = err_from_is_err_and c.from-residual-in-err-place.result c.from-residual-in-err-place.ensures.1 in
+pub returns-in_err-place : goal.returns-in_err-place
+returns-in_err-place c =
+    let p = err_from_is_err_and c.from-residual-in_err-place.result c.from-residual-in_err-place.ensures.1 in
     let bytes = c.args.bytes.now in
     let i = c.loop-i.i in
-    let r = plan_refusal c.in-err-place.field-0.0 in
-    let read = recorded bytes i _ c.in-ok-step.ensures in
-    let at = place_refused c.args.ranked bytes (length bytes / 8) i (progress c.loop-i.table) c.loop-i-test.true c.in-ok-step.step read r (sym c.in-err-place.ensures.answer) in
+    let r = plan_refusal c.in_err-place.field-0.0 in
+    let read = recorded bytes i _ c.in_ok-step.ensures in
+    let at = place_refused c.args.ranked bytes (length bytes / 8) i (progress c.loop-i.table) c.loop-i-test.true c.in_ok-step.step read r (sym c.in_err-place.ensures.answer) in
     rw (p.1, p.2) (record { answer = stopped c.args.ranked bytes c.if-length.false r (c.loop-i.invariant.0 ∙ at); plan = tt })
 
 pub loop-i-preserved : goal.loop-i-preserved
 loop-i-preserved c =
     let bytes = c.args.bytes.now in
     let i = c.loop-i.i in
-    let x = c.in-ok-step.step in
+    let x = c.in_ok-step.step in
     let u = progress c.place.new.self in
-    let read = recorded bytes i _ c.in-ok-step.ensures in
+    let read = recorded bytes i _ c.in_ok-step.ensures in
     let few = records_few (length bytes) c.if-length.false in
     let room : i < length c.loop-i.steps = omega (arith, c.loop-i.invariant.2) in (
-      c.loop-i.invariant.0 ∙ place_given c.args.ranked bytes (length bytes / 8) i (progress c.loop-i.table) c.loop-i-test.true x read u (sym c.in-ok-place.ensures.answer),
+      c.loop-i.invariant.0 ∙ place_given c.args.ranked bytes (length bytes / 8) i (progress c.loop-i.table) c.loop-i-test.true x read u (sym c.in_ok-place.ensures.answer),
       steps_next bytes c.loop-i.steps i x room (read_is i (record_at bytes i) x read) c.loop-i.invariant.1,
       length-set c.loop-i.steps i x ∙ c.loop-i.invariant.2,
     )
@@ -63,8 +63,8 @@ returns-then-table-gt1 c =
 filled : (bytes : List ℕ) (steps : List Step) (i : ℕ) → length bytes / 8 ≤ i → i ≤ length bytes / 8 → take i steps ≡ steps_from bytes i 0 → take (length bytes / 8) steps ≡ steps_of bytes
 filled bytes steps i l k e = let all : i ≡ length bytes / 8 = omega arith in subst (λ n. take n steps ≡ steps_from bytes n 0) all e
 
-pub invariant-of-result : goal.invariant-of-result
-invariant-of-result c =
+pub invariant_of-result : goal.invariant_of-result
+invariant_of-result c =
     let bytes = c.args.bytes.now in
     let t = c.loop-i.table in
     let deep = top_down_length t.entries t.depth in

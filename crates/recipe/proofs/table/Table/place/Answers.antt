@@ -10,7 +10,7 @@ returns-then-self-wanted c =
     let t = c.args.self.now in
     let deep = top_down_length t.entries t.depth in
     record {
-      answer = pass _ _ _ _ (ap (λ b. b && not c.args.ranked) (sym c.wants-ranks.ensures) ∙ c.if-wants-ranks-ranked.false)
+      answer = pass _ _ _ _ (ap (λ b. b && not c.args.ranked) (sym c.wants_ranks.ensures) ∙ c.if-wants_ranks-ranked.false)
           (stop _ _ _ (ap₂ ltb deep (sym c.wanted.ensures) ∙ lt-ltb _ _ c.if-self-wanted.true));
       refused = refl;
     }
@@ -20,9 +20,9 @@ returns c =
     let t = c.args.self.now in
     let deep = top_down_length t.entries t.depth in
     record {
-      answer = pass _ _ _ _ (ap (λ b. b && not c.args.ranked) (sym c.wants-ranks.ensures) ∙ c.if-wants-ranks-ranked.false)
+      answer = pass _ _ _ _ (ap (λ b. b && not c.args.ranked) (sym c.wants_ranks.ensures) ∙ c.if-wants_ranks-ranked.false)
           (pass _ _ _ _ (ap₂ ltb deep (sym c.wanted.ensures) ∙ le-ltb _ _ c.if-self-wanted.false)
-          (pass _ _ _ _ (ap₂ (λ b d. b && leb 4 d) (sym c.adds-plane.ensures) deep ∙ c.if-adds-plane-self.false)
+          (pass _ _ _ _ (ap₂ (λ b d. b && leb 4 d) (sym c.adds_plane.ensures) deep ∙ c.if-adds_plane-self.false)
           (ap given c.grow.ensures)));
       refused = tt;
     }

@@ -30,8 +30,8 @@ filled xs ls i n l k e h =
     let all : i ≡ n = omega arith in
     subst (λ m. take m ls ≡ lines_from xs m 0) all h ∙ ap (λ m. lines_from xs m 0) (sym e)
 
-pub invariant-of-result : goal.invariant-of-result
-invariant-of-result c = (c.loop-i.invariant.long, (c.args.plan.now.few, tt))
+pub invariant_of-result : goal.invariant_of-result
+invariant_of-result c = (c.loop-i.invariant.long, (c.args.plan.now.few, tt))
 
 pub returns : goal.returns
 returns c =

@@ -10,7 +10,7 @@ loop-i-preserved g c plain =
     let ls = c.args.self.now.lines in
     let less : c.loop-i.i < length ls = omega (arith, c.args.self.now.long, c.args.self.now.few, c.loop-i-test.true) in
     let before = c.loop-i.invariant plain in
-    let ok : is_ok c.writeln.result ≡ true = rw c.in-ok-writeln.was in
+    let ok : is_ok c.writeln.result ≡ true = rw c.in_ok-writeln.was in
     line_put g.W.Write.write_str_gives _ _ _ ls c.loop-i.i _ less before (c.writeln.ensures.writes before.plain ok)
 
 pub returns-clause-writes : goal.returns-clause-writes
