@@ -1,5 +1,5 @@
 -- What each call leaves behind.
-use Rattle.std.proofs.Common.{◌≡◌, ℕ, ◌+◌, ◌-◌, ◌*◌, ◌/◌, ◌%◌, ◌<◌, ◌≤◌, min, Bool, true, false, not, eqb, leb, List, [], ◌∷◌, map, length, get_or, take, sym, refl, ap, ◌∙◌, subst, mul-le-mul_right, arith}
+use Rattle.std.proofs.Common.{◌≡◌, ℕ, ◌+◌, ◌-◌, ◌*◌, ◌<◌, ◌≤◌, min, Bool, true, false, eqb, leb, List, [], ◌∷◌, map, length, get_or, take, sym, refl, ap, ◌∙◌, subst, mul-le-mul_right, arith}
 use Rattle.std.proofs.lemmas.List.{take_all, length-map, get_or-map}
 use Rattle.std.proofs.lemmas.Bool.{eq-eqb, ne_eqb, lt-leb, le-leb, not_from_true, not_from_false}
 use Rattle.level.specs.Kind.{Kind}
@@ -10,9 +10,9 @@ use Rattle.recipe.specs.declared.plan.Plan.{Plan}
 use Rattle.recipe.specs.declared.step.Step.{Step}
 use Rattle.recipe.specs.Plans.{Answer, given, refused, unless, next, checked, steps_of}
 use Rattle.steps.specs.declared.extent.Extent.{Extent}
-use Rattle.steps.specs.Images.{Size, Place, Inside, Image}
-use Rattle.steps.specs.Planes.{size_of, places, index, Holds}
-use Rattle.steps.specs.Recipes.{image, planes, top_of}
+use Rattle.steps.specs.Images.{Size, Image}
+use Rattle.steps.specs.Planes.{size_of, places, index}
+use Rattle.steps.specs.Recipes.{planes, top_of}
 use Rattle.steps.specs.Stacks.{plane_at, Stacked}
 use Rattle.steps.proofs.Written.{index_fits}
 use Rattle.cell.specs.declared.calls.Phase.{Phase}
@@ -21,8 +21,8 @@ use Rattle.cell.specs.declared.run.Run.{Run}
 use Rattle.cell.specs.Refusals.{of_cell}
 use Rattle.cell.specs.Rasters.{picture, raster, Put, Got}
 use Rattle.cell.specs.Histories.{Call, Admit, Lay, Steps, Take, Clear, event, History, Setting, size, pixels, works, housed, installed, laid, is_open, done, left, image_of, defined}
-use Rattle.cell.specs.Cells.{Opened, Fits, Runs, Waits, Empty, Behind}
-use Rattle.cell.specs.Shows.{steps_in, standing, Shows, Worked}
+use Rattle.cell.specs.Cells.{Opened, Fits, Behind}
+use Rattle.cell.specs.Shows.{steps_in, standing, Worked}
 use Rattle.cell.proofs.Running.{counted_steps, finished_depth}
 use Rattle.cell.proofs.Rastered.{rastered}
 

@@ -3,7 +3,6 @@ use Rattle.std.proofs.Common.{◌≡◌, ℕ, ◌+◌, ◌-◌, min, Bool, true,
 use lib.ListN.{length-map}
 use Rattle.level.specs.Kind.{Kind}
 use Rattle.rule.specs.Criterion.{Criterion}
-use Rattle.recipe.specs.declared.step.Step.{Step}
 use Rattle.recipe.specs.declared.entry.Sheet.{Sheet}
 use Rattle.recipe.specs.declared.fault.Refusal.{Refusal}
 use Rattle.recipe.specs.Steps.{mirror_step}

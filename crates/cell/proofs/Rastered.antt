@@ -1,13 +1,13 @@
 -- An output that holds the top plane is the list of its image.
-use Rattle.std.proofs.Common.{◌≡◌, ℕ, zero, suc, ◌+◌, ◌*◌, ◌/◌, ◌%◌, ◌<◌, ◌≤◌, List, [], ◌∷◌, map, length, get_or, sym, refl, ap, ◌∙◌, subst, le_of_suc-le-suc, not-suc-le-zero, arith}
-use Rattle.std.proofs.lemmas.List.{ext_get_or, length-map, get_or-map, get_or_default}
+use Rattle.std.proofs.Common.{◌≡◌, ℕ, zero, suc, ◌+◌, ◌*◌, ◌<◌, ◌≤◌, List, [], ◌∷◌, map, length, get_or, sym, refl, ap, ◌∙◌, subst, le_of_suc-le-suc, not-suc-le-zero, arith}
+use Rattle.std.proofs.lemmas.List.{ext_get_or, length-map, get_or-map}
 use Rattle.std.proofs.lemmas.Nat.{div_below, mod_below, div-add-mod'}
 use Rattle.level.specs.Kind.{Kind}
 use Rattle.promise.specs.Operators.{nth}
-use Rattle.steps.specs.Images.{Size, Place, Inside, Image}
+use Rattle.steps.specs.Images.{Size, Inside, Image}
 use Rattle.steps.specs.Planes.{places, index, Holds}
 use Rattle.steps.specs.Recipes.{top_of}
-use Rattle.steps.specs.Stacks.{plane_at, Stacked}
+use Rattle.steps.specs.Stacks.{Stacked}
 use Rattle.cell.specs.Rasters.{counted, raster, Got}
 use Rattle.cell.specs.Histories.{Setting, size, pixels}
 

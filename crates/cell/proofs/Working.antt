@@ -1,23 +1,22 @@
 -- What a record that is done leaves on the block.
-use Rattle.std.proofs.Common.{◌≡◌, ℕ, ◌+◌, ◌*◌, ◌<◌, ◌≤◌, true, List, [], ◌∷◌, ◌++◌, length, get_or, take, sym, refl, ap, ◌∙◌, subst, arith}
+use Rattle.std.proofs.Common.{◌≡◌, ℕ, ◌+◌, ◌<◌, ◌≤◌, true, List, [], ◌∷◌, length, get_or, take, sym, refl, ap, ◌∙◌, subst, arith}
 use Rattle.std.proofs.lemmas.List.{take_more}
 use Rattle.level.specs.Kind.{Kind}
 use Rattle.rule.specs.Criterion.{Criterion}
 use Rattle.recipe.specs.declared.plan.Plan.{Plan}
-use Rattle.recipe.specs.declared.step.Step.{Step}
 use Rattle.recipe.specs.declared.step.Step.TheVariants.{Frame}
 use Rattle.recipe.specs.Steps.{Form, start, change, merge, form, wants, adds}
-use Rattle.recipe.specs.Machines.{by_form, stepped, run}
+use Rattle.recipe.specs.Machines.{stepped, run}
 use Rattle.recipe.specs.Depths.{deeper}
 use Rattle.recipe.proofs.Checking.{by_form_length}
 use Rattle.recipe.proofs.Machining.{run_after}
 use Rattle.steps.specs.Images.{Size, Image}
-use Rattle.steps.specs.Planes.{places, index, Holds}
+use Rattle.steps.specs.Planes.{index}
 use Rattle.steps.specs.Recipes.{on_planes}
 use Rattle.steps.specs.Stacks.{plane_at, Stacked, Ready, Applied}
 use Rattle.steps.proofs.Written.{index_fits}
 use Rattle.cell.specs.declared.run.Run.{Run}
-use Rattle.cell.specs.Shows.{steps_in, standing, Shows, Leaves, Housed, Worked}
+use Rattle.cell.specs.Shows.{steps_in, standing, Shows, Housed, Worked}
 use Rattle.cell.proofs.Running.{counted_steps, next_step, next_is, next_ranks, next_planes, next_room}
 
 -- what adds a plane makes the stack deeper by one

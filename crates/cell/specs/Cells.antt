@@ -1,5 +1,5 @@
 -- A cell that has a history behind it.
-use Rattle.std.specs.Prelude.{◌≡◌, ℕ, ◌+◌, ◌*◌, ◌≤◌, Bool, true, false, List, [], ◌∷◌, length, Ok, Err, Result}
+use Rattle.std.specs.Prelude.{◌≡◌, ℕ, ◌+◌, ◌≤◌, true, false, List, [], ◌∷◌, length, Ok, Err, Result}
 use Rattle.level.specs.Kind.{Kind}
 use Rattle.rule.specs.Criterion.{Criterion}
 use Rattle.recipe.specs.declared.entry.Sheet.{Sheet}
@@ -17,7 +17,7 @@ use Rattle.cell.specs.declared.calls.Stepped.{Stepped}
 use Rattle.cell.specs.declared.calls.Cell.{Cell}
 use Rattle.cell.specs.Refusals.{cell_refusal}
 use Rattle.cell.specs.Rasters.{picture, Put}
-use Rattle.cell.specs.Histories.{Call, Good, Event, event, History, Setting, size, State, state, works, CanHappen}
+use Rattle.cell.specs.Histories.{Call, Good, event, History, Setting, size, State, state, works, CanHappen}
 use Rattle.cell.specs.Shows.{steps_in, Shows, Leaves}
 
 module _ (K : Kind) {X : Type 0} (m : X → K.Level) (C : Criterion) (s : Setting) (e : Extent) where

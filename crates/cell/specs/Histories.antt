@@ -6,7 +6,7 @@ use Rattle.rule.specs.Criterion.{Criterion}
 use Rattle.recipe.specs.declared.entry.Sheet.{Sheet}
 use Rattle.recipe.specs.Plans.{Answer, given, refused, unless, next, checked, steps_of}
 use Rattle.steps.specs.Extents.{is_size}
-use Rattle.steps.specs.Images.{Size, Image}
+use Rattle.steps.specs.Images.{Size}
 use Rattle.steps.specs.Planes.{places}
 use Rattle.steps.specs.Recipes.{image}
 use Rattle.cell.specs.Refusals.{of_cell}

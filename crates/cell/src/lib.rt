@@ -1,4 +1,6 @@
 // The recipe cell: one recipe, one frame at a time, over one lent block.
+#![tactic(auto)]
+
 pub mod calls;
 pub mod fault;
 pub mod laws;

@@ -1,5 +1,5 @@
 -- Heights as ranks: the least and the greatest of two, and what -1 - v is.
-use Rattle.std.proofs.Common.{◌≡◌, ℕ, zero, suc, ◌+◌, ◌-◌, min, max, ℤ, pos, negsuc, ◌-ℤ◌, refl, ◌∙◌, arith, w16, SFits, to_z, of_z}
+use Rattle.std.proofs.Common.{◌≡◌, ◌-◌, min, max, ℤ, pos, negsuc, ◌-ℤ◌, arith, w16, SFits, to_z, of_z}
 use Rattle.std.specs.Int.{int_min, int_max}
 use Rattle.std.proofs.lemmas.Int.{ints, to_z-of_z}
 use Rattle.std.proofs.lemmas.Bool.Decides.{nat_tests}

@@ -1,5 +1,5 @@
 -- Numbers of which the first n flags are a level: what `&`, `|` and `^` under a mask of those flags do.
-use Rattle.std.proofs.Common.{◌≡◌, ℕ, ◌^◌, ◌<◌, Bool, true, false, not, ◌&&◌, ◌||◌, T, sym, refl, ap, ◌∙◌, subst, arith}
+use Rattle.std.proofs.Common.{◌≡◌, ℕ, ◌^◌, ◌<◌, Bool, true, false, ◌&&◌, T, sym, refl, ap, ◌∙◌, subst, arith}
 use mathlib.Core.Path.{fun_ext}
 use lib.Bits.{bit_and, bit_or, bit_xor, and_le_r}
 use Rattle.level.specs.Flags.{flag, flags, first_flags}

@@ -1,4 +1,6 @@
 //! Kinds of level: what a pixel can hold, and the laws that every step of the image stage rests on.
+#![tactic(auto)]
+
 ghost use Rattle.std.specs.Prelude.{◌≡◌, ◌≤◌, true, Decides};
 ghost use Rattle.level.specs.Kind.{Kind};
 ghost use Rattle.level.specs.Lattice.{Laws, RankLaws};

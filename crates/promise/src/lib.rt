@@ -1,4 +1,6 @@
 // What the sheet of a recipe promises of its image, for every kind of level and every selecting rule.
+#![tactic(auto)]
+
 ghost use Rattle.promise.specs.Morphology.{MorphologyLaw, ChainLaw};
 ghost use Rattle.promise.specs.Selection.{SelectionLaw};
 ghost use Rattle.promise.specs.Limits.{Limits};

@@ -1,5 +1,5 @@
 -- The check answers the first condition that holds, and else the sheet.
-use Rattle.std.proofs.Common.{◌≡◌, ℕ, zero, suc, ◌+◌, ◌/◌, ◌≤◌, max, Bool, true, false, not, ltb, List, [], ◌∷◌, ◌++◌, length, Some, None, sym, refl, ap, ◌∙◌, subst, ap₂, add-one, arith}
+use Rattle.std.proofs.Common.{◌≡◌, ℕ, zero, suc, ◌+◌, ◌/◌, ◌≤◌, max, Bool, true, false, not, ltb, List, [], ◌∷◌, ◌++◌, length, Some, None, sym, refl, ap, ◌∙◌, ap₂, add-one, arith}
 use Rattle.std.specs.List.{AllByRecursion as All}
 use Rattle.recipe.specs.declared.entry.Entry.{Entry}
 use Rattle.recipe.specs.declared.entry.Sheet.{Sheet}
@@ -9,7 +9,7 @@ use Rattle.recipe.specs.declared.step.Step.{Step}
 use Rattle.recipe.specs.Machines.{stepped, run}
 use Rattle.recipe.specs.Sheets.{on_entries, sheet_of}
 use Rattle.recipe.specs.Refusals.{refusal}
-use Rattle.recipe.specs.Plans.{Answer, given, refused, unless, next, record_at, step_of, steps_from, steps_of, unknown_kind, not_zero, bad_element, reads, Progress, grown, lacks_ranks, lacks_planes, lacks_room, placed, walked, nothing, right_length, finished, checked}
+use Rattle.recipe.specs.Plans.{Answer, given, refused, unless, next, record_at, step_of, steps_from, steps_of, unknown_kind, not_zero, bad_element, Progress, grown, lacks_ranks, lacks_planes, lacks_room, placed, walked, nothing, right_length, finished, checked}
 use Rattle.recipe.specs.Laws.{Condition, when, stack_before, of_record, of_records, conditions, deepest, sheet_from, Unmet, First, AdmissionLaw}
 use Rattle.recipe.proofs.Checking.{steps_push, same_given}
 use Rattle.recipe.proofs.Machining.{run_after}

@@ -1,20 +1,18 @@
 -- A sheet's planes and reach are bounded.
-use Rattle.std.proofs.Common.{◌≡◌, ℕ, zero, suc, ◌+◌, ◌-◌, ◌*◌, ◌/◌, ◌%◌, ◌<◌, ◌≤◌, min, max, Bool, true, false, not, eqb, ltb, leb, List, [], ◌∷◌, length, None, sym, refl, ap, ◌∙◌, subst, ⊎_elim, arith}
+use Rattle.std.proofs.Common.{◌≡◌, ℕ, zero, suc, ◌+◌, ◌-◌, ◌*◌, ◌/◌, ◌%◌, ◌≤◌, Bool, true, not, eqb, ltb, leb, List, [], ◌∷◌, length, None, sym, ap, ◌∙◌, subst, ⊎_elim, arith}
 use Rattle.std.specs.List.{AllByRecursion as All}
 use Rattle.std.proofs.lemmas.Bool.{cases_lt, and_parts, leb-true, not-false}
 use Rattle.recipe.specs.declared.entry.Entry.{Entry}
-use Rattle.recipe.specs.declared.entry.Sheet.{Sheet}
 use Rattle.recipe.specs.declared.fault.Layer.TheVariants.{Plan}
-use Rattle.recipe.specs.declared.step.Step.{Step}
 use Rattle.recipe.specs.Elements.{Offsets, offsets, radius}
 use Rattle.recipe.specs.Steps.{Change, negation, folding, filtering, selecting, Merge, bounding, averaging, Form, start, change, merge, form, wants}
-use Rattle.recipe.specs.Machines.{by_form, stepped}
+use Rattle.recipe.specs.Machines.{by_form}
 use Rattle.recipe.specs.Sheets.{after, of_two, on_entries, sheet_of, top}
 use Rattle.recipe.specs.Refusals.{refusal}
-use Rattle.recipe.specs.Plans.{given, refused, unless, next, record_at, reads, placed, Progress, grown, nothing, walked, right_length, finished, checked}
+use Rattle.recipe.specs.Plans.{given, record_at, reads, placed, Progress, nothing, walked, right_length, finished}
 use Rattle.recipe.specs.Laws.{Bounds, BoundsLaw}
 use Rattle.recipe.proofs.Gathered.{radius_greatest}
-use Rattle.recipe.proofs.Checking.{same_given, let_by, both_given, places, placed_depth, placed_planes, walk, walk_some}
+use Rattle.recipe.proofs.Checking.{same_given, let_by, both_given, places, walk, walk_some}
 
 pub radius_small : (E : Offsets) → radius E ≤ 2
 radius_small E =

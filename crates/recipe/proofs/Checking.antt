@@ -1,12 +1,11 @@
 -- How a check goes on from record to record, and what is known of a recipe that passes.
-use Rattle.std.proofs.Common.{◌≡◌, ℕ, zero, suc, ◌+◌, ◌-◌, ◌<◌, ◌≤◌, max, Bool, true, false, not, ◌&&◌, ◌||◌, eqb, ltb, leb, List, [], ◌∷◌, ◌++◌, length, take, set, sym, refl, ap, ◌∙◌, subst, ap₂, add-one, arith}
+use Rattle.std.proofs.Common.{◌≡◌, ℕ, zero, suc, ◌+◌, ◌-◌, ◌<◌, ◌≤◌, max, Bool, true, false, not, ◌&&◌, ◌||◌, leb, List, [], ◌∷◌, ◌++◌, length, take, set, sym, refl, ap, ◌∙◌, subst, ap₂, add-one, arith}
 use Rattle.std.proofs.lemmas.List.{take_more_set}
-use Rattle.std.proofs.lemmas.Bool.{ltb-false, leb-false, le-leb, eq-eqb, and_from, and_cases, not-false}
-use Rattle.recipe.specs.declared.entry.Entry.{Entry}
+use Rattle.std.proofs.lemmas.Bool.{ltb-false, leb-false, le-leb, eq-eqb, and_from}
 use Rattle.recipe.specs.declared.fault.Refusal.{Refusal}
 use Rattle.recipe.specs.declared.step.Step.{Step}
 use Rattle.recipe.specs.Steps.{Form, start, change, merge, form, wants, reads_ranks, adds}
-use Rattle.recipe.specs.Machines.{Machine, by_form, stepped}
+use Rattle.recipe.specs.Machines.{Machine, by_form}
 use Rattle.recipe.specs.Depths.{deeper, runs}
 use Rattle.recipe.specs.Sheets.{on_entries}
 use Rattle.recipe.specs.Plans.{Answer, given, refused, unless, next, record_at, step_of, unknown_kind, not_zero, bad_element, lacks_ranks, lacks_planes, lacks_room, reads, Progress, grown, placed, walked, steps_from}

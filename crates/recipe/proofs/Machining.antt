@@ -1,5 +1,5 @@
 -- Two machines whose parts are related leave related stacks.
-use Rattle.std.proofs.Common.{◌≡◌, List, [], ◌∷◌, ◌++◌, refl, ap, ◌∙◌}
+use Rattle.std.proofs.Common.{◌≡◌, List, [], ◌∷◌, ◌++◌, refl}
 use Rattle.recipe.specs.declared.step.Step.{Step}
 use Rattle.recipe.specs.Steps.{Change, Merge, Form, start, change, merge, form}
 use Rattle.recipe.specs.Machines.{Machine, by_form, stepped, run}

@@ -1,14 +1,12 @@
 -- What the plan checker's length test and its last records give.
-use Rattle.std.proofs.Common.{◌≡◌, ℕ, zero, suc, ◌+◌, ◌-◌, ◌/◌, ◌%◌, ◌<◌, ◌≤◌, Bool, true, false, not, ◌&&◌, ◌||◌, eqb, ltb, leb, List, length, take, None, sym, refl, ap, ◌∙◌, subst, arith}
-use Rattle.std.proofs.lemmas.Bool.{ltb-false, le-leb, or_parts, and_from, not_from_true, not-false, lt-ltb, le-ltb}
-use Rattle.recipe.specs.declared.step.Step.{Step}
-use Rattle.recipe.specs.declared.entry.Sheet.{Sheet}
+use Rattle.std.proofs.Common.{◌≡◌, ℕ, suc, ◌-◌, ◌/◌, ◌%◌, ◌<◌, ◌≤◌, Bool, true, false, not, ◌||◌, eqb, ltb, List, length, None, sym, refl, ap, ◌∙◌, arith}
+use Rattle.std.proofs.lemmas.Bool.{ltb-false, le-leb, or_parts, and_from, not-false, lt-ltb, le-ltb}
 use Rattle.recipe.specs.declared.fault.Layer.TheVariants.{Plan}
 use Rattle.recipe.specs.declared.fault.Refusal.{Refusal}
 use Rattle.recipe.specs.Depths.{runs}
 use Rattle.recipe.specs.Sheets.{sheet_of}
 use Rattle.recipe.specs.Refusals.{refusal}
-use Rattle.recipe.specs.Plans.{Answer, given, refused, unless, next, Progress, nothing, right_length, finished, checked, walked, steps_of}
+use Rattle.recipe.specs.Plans.{given, refused, unless, next, Progress, nothing, right_length, finished, checked, walked, steps_of}
 use Rattle.recipe.proofs.Refusing.{pass, stop}
 use Rattle.recipe.proofs.Checking.{walk, walk_some}
 

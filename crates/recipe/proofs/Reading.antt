@@ -1,5 +1,5 @@
 -- What the reader finds of a record, and what is then read.
-use Rattle.std.proofs.Common.{◌≡◌, ℕ, ◌<◌, ◌≤◌, Bool, true, false, cond, not, ◌&&◌, ◌||◌, ltb, leb, List, Some, None, Option, sym, refl, ap, ◌∙◌, subst, ap₂, arith}
+use Rattle.std.proofs.Common.{◌≡◌, ℕ, Bool, true, false, cond, not, ◌&&◌, ◌||◌, ltb, leb, List, Some, None, refl, ap, arith}
 use Rattle.std.proofs.lemmas.Bool.{or_parts, ltb-false, le-leb, and_from, not_from_true, and_left, and_right}
 use Rattle.recipe.specs.declared.element.Element.{Element}
 use Rattle.recipe.specs.declared.step.Step.{Step}

@@ -1,5 +1,5 @@
 -- The entries' chains tell how planes were made: S stands exactly on chains.
-use Rattle.std.proofs.Common.{◌≡◌, ℕ, Bool, true, false, cond, eqb, ◌↔◌, List, [], ◌∷◌, sym, refl, ap, ◌∙◌, subst, arith}
+use Rattle.std.proofs.Common.{◌≡◌, ℕ, Bool, true, false, cond, eqb, ◌↔◌, List, [], sym, refl, ap, ◌∙◌, subst, arith}
 use Rattle.std.proofs.lemmas.Bool.{eqb-true, eqb-false}
 use Rattle.level.specs.declared.side.Side.{Side}
 use Rattle.recipe.specs.declared.element.Element.{Element}
@@ -10,8 +10,8 @@ use Rattle.recipe.specs.declared.entry.Sheet.{Sheet}
 use Rattle.recipe.specs.Steps.{Change, negation, folding, filtering, selecting, Merge, bounding, averaging}
 use Rattle.recipe.specs.Machines.{run}
 use Rattle.recipe.specs.Sheets.{longer, after, of_two, on_entries, settles, top}
-use Rattle.recipe.specs.Plans.{given, checked, steps_of}
-use Rattle.recipe.specs.Laws.{sheet_from, Making, laid, changed, merged, on_makings, ChainOf, frame, filtered, last_making, SettlesLaw}
+use Rattle.recipe.specs.Plans.{steps_of}
+use Rattle.recipe.specs.Laws.{Making, changed, merged, on_makings, ChainOf, frame, filtered, last_making, SettlesLaw}
 use Rattle.recipe.proofs.Admitting.{sheet_is}
 use Rattle.recipe.proofs.Machining.{Pairwise, nil, cons, run_related}
 

@@ -1,5 +1,5 @@
 -- The table's entries, read from the top down, follow the machine on entries.
-use Rattle.std.proofs.Common.{◌≡◌, ℕ, zero, suc, ◌+◌, ◌-◌, ◌<◌, ◌≤◌, max, true, ◌≢◌, List, [], ◌∷◌, length, get_or, set, sym, refl, ap, ◌∙◌, subst, ap₂, arith, get_or-set_other, get_or-set_same}
+use Rattle.std.proofs.Common.{◌≡◌, ℕ, zero, suc, ◌<◌, ◌≤◌, max, true, ◌≢◌, List, ◌∷◌, length, get_or, set, sym, refl, ap, ◌∙◌, ap₂, arith, get_or-set_other, get_or-set_same}
 use Rattle.recipe.specs.declared.entry.Entry.{Entry}
 use Rattle.recipe.specs.Steps.{Change, Merge, Form, start, change, merge, wants, adds}
 use Rattle.recipe.specs.Machines.{by_form, stepped}

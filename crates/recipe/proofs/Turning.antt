@@ -1,5 +1,5 @@
 -- Bits written in the opposite order, one by one.
-use Rattle.std.proofs.Common.{◌≡◌, ℕ, zero, suc, ◌+◌, ◌-◌, ◌*◌, ◌/◌, ◌%◌, ◌^◌, ◌<◌, ◌≤◌, eqb, sym, refl, ap, ◌∙◌, not-suc-le-zero, arith}
+use Rattle.std.proofs.Common.{◌≡◌, ℕ, zero, suc, ◌+◌, ◌-◌, ◌*◌, ◌/◌, ◌%◌, ◌^◌, ◌<◌, eqb, sym, ap, ◌∙◌, not-suc-le-zero, arith}
 use Rattle.std.proofs.lemmas.Nat.{shr-shr, pow-add, mod_below}
 use Rattle.recipe.specs.Elements.{bits}
 

@@ -1,5 +1,5 @@
 -- Structuring elements: sets of offsets. Offset b, one of 25, leads b % 5 - 2 columns to the right and b / 5 - 2 rows down.
-use Rattle.std.specs.Prelude.{◌≡◌, ℕ, zero, suc, ◌+◌, ◌-◌, ◌/◌, ◌%◌, ◌^◌, ◌<◌, ◌≤◌, max, Bool, cond, ◌&&◌, T, ◌==◌, nat_lt}
+use Rattle.std.specs.Prelude.{◌≡◌, ℕ, zero, suc, ◌-◌, ◌/◌, ◌%◌, ◌^◌, ◌<◌, ◌≤◌, max, Bool, cond, ◌&&◌, T, ◌==◌, nat_lt}
 use Rattle.recipe.specs.declared.element.Element.{Element}
 
 -- a set of offsets, as a test

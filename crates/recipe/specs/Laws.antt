@@ -12,7 +12,7 @@ use Rattle.recipe.specs.Steps.{Change, filtering, Merge}
 use Rattle.recipe.specs.Machines.{Machine, stepped, run}
 use Rattle.recipe.specs.Sheets.{on_entries, sheet_of}
 use Rattle.recipe.specs.Refusals.{refusal}
-use Rattle.recipe.specs.Plans.{Answer, given, refused, record_at, step_of, steps_from, steps_of, unknown_kind, not_zero, bad_element, lacks_ranks, lacks_planes, lacks_room, right_length, checked}
+use Rattle.recipe.specs.Plans.{given, refused, record_at, step_of, steps_from, steps_of, unknown_kind, not_zero, bad_element, lacks_ranks, lacks_planes, lacks_room, right_length, checked}
 use Rattle.recipe.specs.Mirrors.{mirror, mirror_answer}
 
 -- a refusal, and whether its condition holds

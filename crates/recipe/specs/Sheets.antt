@@ -1,9 +1,7 @@
 -- The admission sheet: reach and marks of each plane on the stack, step by step.
 use Rattle.std.specs.Prelude.{ℕ, ◌+◌, ◌*◌, min, max, Bool, true, false, cond, ◌&&◌, ◌||◌, List, [], ◌∷◌, ◌==◌}
-use Rattle.level.specs.declared.side.Side.{Side}
 use Rattle.level.specs.Sides.{is_low, is_high}
 use Rattle.recipe.specs.declared.element.Element.{Element}
-use Rattle.recipe.specs.declared.step.Step.{Step}
 use Rattle.recipe.specs.declared.entry.Chain.{Chain}
 use Rattle.recipe.specs.declared.entry.Chain.TheVariants.{OfAny, Of, Broken}
 use Rattle.recipe.specs.declared.entry.Entry.{Entry}
@@ -11,7 +9,7 @@ use Rattle.recipe.specs.declared.entry.Marks.{Marks}
 use Rattle.recipe.specs.declared.entry.Sheet.{Sheet}
 use Rattle.recipe.specs.Elements.{offsets, centred, radius}
 use Rattle.recipe.specs.Steps.{Change, negation, folding, filtering, selecting, Merge, bounding, averaging}
-use Rattle.recipe.specs.Machines.{Machine, run}
+use Rattle.recipe.specs.Machines.{Machine}
 
 -- the frame's entry: it reaches nowhere else, has every mark but T, and is a chain of any element
 abbrev pub frame_entry : Entry

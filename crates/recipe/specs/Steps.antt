@@ -1,5 +1,5 @@
 -- The twelve steps by what they do to a stack of planes. Most come in a low and a high form, which are dual.
-use Rattle.std.specs.Prelude.{ℕ, Bool, true, false, List, map}
+use Rattle.std.specs.Prelude.{ℕ, Bool, true, false}
 use Rattle.level.specs.declared.side.Side.{Side}
 use Rattle.level.specs.declared.side.Side.TheVariants.{Low, High}
 use Rattle.level.specs.Sides.{opposite}

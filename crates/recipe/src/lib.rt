@@ -1,4 +1,6 @@
 // Recipes: records read into steps, checked against the stack of planes, and summed up on an admission sheet.
+#![tactic(auto)]
+
 mod check;
 pub mod element;
 pub mod entry;

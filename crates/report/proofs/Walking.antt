@@ -2,7 +2,6 @@
 use Rattle.std.proofs.Common.{◌≡◌, ℕ, zero, suc, ◌+◌, ◌<◌, ◌≤◌, Bool, true, false, not, ◌&&◌, ◌||◌, leb, List, [], ◌∷◌, ◌++◌, length, get_or, take, drop, set, Ok, Err, Result, sym, refl, ap, ◌∙◌, subst, ap₂, add-one, arith, length-set}
 use Rattle.std.proofs.lemmas.List.{take_more, take_more_set, at_drop_more}
 use Rattle.std.proofs.lemmas.Bool.{and_parts, leb-true, le-ltb, lt-leb}
-use Rattle.recipe.specs.declared.entry.Entry.{Entry}
 use Rattle.recipe.specs.declared.fault.PlanFault.{PlanFault}
 use Rattle.recipe.specs.declared.plan.Plan.{Plan}
 use Rattle.recipe.specs.declared.step.Step.{Step}
@@ -12,7 +11,7 @@ use Rattle.recipe.specs.Steps.{Form, start, change, merge, form, wants, reads_ra
 use Rattle.recipe.specs.Machines.{Machine, stepped, run}
 use Rattle.recipe.specs.Depths.{deeper, runs}
 use Rattle.recipe.specs.Sheets.{on_entries, top}
-use Rattle.recipe.specs.Plans.{Answer, given, refused, Progress, nothing, grown, lacks_ranks, lacks_planes, lacks_room, placed}
+use Rattle.recipe.specs.Plans.{given, Progress, nothing, grown, lacks_ranks, lacks_planes, lacks_room, placed}
 use Rattle.recipe.specs.Tables.{progress}
 use Rattle.recipe.specs.Answers.{left_answer}
 use Rattle.recipe.proofs.Checking.{by_form_length}

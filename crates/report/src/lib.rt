@@ -1,4 +1,6 @@
 // What is told of a recipe, as text: a listing's lines, and the answer to its admission.
+#![tactic(auto)]
+
 pub mod letters;
 pub mod line;
 mod list;

@@ -4,18 +4,18 @@ use Rattle.rule.specs.Ranks.{Numbers, Made}
 use Rattle.rule.specs.Windows.{made_shaped}
 
 abbrev pub Kept : Numbers → Type 0
-Kept w =
-    Made w
-    × ((1 ≤ w.count)
-    × ((w.count ≤ 25)
-    × ((w.lowest ≤ w.highest)
-    × ((w.highest ≤ 65535)
-    × ((w.sum ≤ w.count * 65535)
-    × ((w.squares ≤ w.count * (65535 * 65535))
-    × ((w.sum * w.sum ≤ w.count * w.squares)
-    × Unit {0})))))))
+Kept w = record {
+  made : Made w;
+  some : 1 ≤ w.count;
+  few : w.count ≤ 25;
+  ordered : w.lowest ≤ w.highest;
+  ranked : w.highest ≤ 65535;
+  summed : w.sum ≤ w.count * 65535;
+  squared : w.squares ≤ w.count * (65535 * 65535);
+  spread : w.sum * w.sum ≤ w.count * w.squares;
+}
 
 pub kept : (w : Numbers) → Made w → Kept w
 kept w m =
     let b = made_shaped w m in
-    (m, (b.some, (b.few, (b.ordered, (b.ranked, (b.summed, (b.squared, (b.spread, tt))))))))
+    record { made = m; some = b.some; few = b.few; ordered = b.ordered; ranked = b.ranked; summed = b.summed; squared = b.squared; spread = b.spread }

@@ -1,7 +1,7 @@
 -- Rules made of measures: of windows the one with the smallest first measure is best, of equal ones the one with the smallest
 -- second, and so on. Such a rule has all its laws from two facts: its measures remain, and its value turns round, when every
 -- rank r becomes t - r.
-use Rattle.std.specs.Prelude.{◌≡◌, ℕ, ◌*◌, ◌<◌, ◌≤◌, Bool, true, false, ◌&&◌, ◌||◌, T, ◌⊎◌, List, [], ◌∷◌, ◌==◌, nat_le, nat_lt, refl}
+use Rattle.std.specs.Prelude.{◌≡◌, ℕ, ◌*◌, ◌<◌, ◌≤◌, Bool, true, false, ◌&&◌, ◌||◌, T, List, [], ◌∷◌, ◌==◌, nat_le, nat_lt, refl}
 use Rattle.std.proofs.Common.{sym, ◌∙◌, subst, ⊎_elim, arith, leb→le, le→leb, ltb→lt, lt→ltb, eqb→eq}
 use Rattle.std.proofs.Math.Dec.{eqb_refl}
 use Rattle.std.proofs.lemmas.Bool.Decides.{leb_tells}

@@ -1,4 +1,6 @@
 // Selecting rules: which of two windows is at least as good, and what value a window has.
+#![tactic(auto)]
+
 ghost use Rattle.std.specs.Prelude.{◌≡◌, ◌*◌, ◌^◌, ◌≤◌};
 ghost use Rattle.rule.specs.Criterion.{Criterion, Laws};
 ghost use Rattle.rule.specs.Variance.{least_variance, variation as varied};

@@ -1,4 +1,6 @@
 //! Kinds of level put to use: a kind of an engineer's own, and code that serves any kind.
+#![tactic(auto)]
+
 ghost use Rattle.std.specs.Prelude.{◌≡◌, ◌+◌, ◌/◌, true};
 ghost use Rattle.level.specs.Delivered.{labels, label, Clear};
 ghost use Rattle.sketch.specs.Worked.{Worked};

@@ -1,11 +1,11 @@
 -- Planes that one step after another works on.
-use Rattle.std.proofs.Common.{◌≡◌, ℕ, zero, suc, ◌+◌, ◌*◌, ◌<◌, ◌≤◌, Bool, ◌&&◌, List, length, get_or, sym, refl, ap, ◌∙◌, subst, arith}
+use Rattle.std.proofs.Common.{◌≡◌, ℕ, zero, suc, ◌<◌, Bool, ◌&&◌, List, refl, ap, ◌∙◌, subst, arith}
 use Rattle.level.specs.declared.side.Side.{Side}
 use Rattle.level.specs.Kind.{Kind}
 use Rattle.recipe.specs.Elements.{Offsets, gather}
-use Rattle.steps.specs.Images.{Size, Place, Inside, Image, moved, lands, folded}
-use Rattle.steps.specs.Planes.{places, index, Holds, Outside, Kept, Spared, Apart, Copied, Made, Changed}
-use Rattle.steps.proofs.Written.{index_fits, holds_kept}
+use Rattle.steps.specs.Images.{Size, Place, Image, lands, folded}
+use Rattle.steps.specs.Planes.{places, index, Holds, Copied, Made, Changed}
+use Rattle.steps.proofs.Written.{index_fits}
 
 -- what is gathered depends only on the first n tests
 pub gather_takes : {A : Type 0} (op : A → A → A) (none : A) (takes takes' : ℕ → Bool) (value : ℕ → A) (n : ℕ) → ((b : ℕ) → b < n → takes b ≡ takes' b) →

@@ -1,5 +1,5 @@
 -- The loop over the offsets for one row, and the loop over the rows.
-use Rattle.std.proofs.Common.{◌≡◌, ℕ, ◌+◌, ◌-◌, ◌*◌, ◌/◌, ◌%◌, ◌<◌, ◌≤◌, Bool, true, false, ◌&&◌, List, length, get_or, sym, refl, ap, ◌∙◌, subst, ap₂, inl, inr, ⊎_elim, add_assoc, arith, below_more}
+use Rattle.std.proofs.Common.{◌≡◌, ℕ, ◌+◌, ◌-◌, ◌*◌, ◌/◌, ◌%◌, ◌<◌, ◌≤◌, true, false, ◌&&◌, List, length, get_or, sym, refl, ap, ◌∙◌, subst, ap₂, inl, inr, ⊎_elim, add_assoc, arith, below_more}
 use Rattle.std.proofs.lemmas.Bool.{cases_Bool, cond-true, cond-false, and_parts, and_from, and_left, and_right, and_cases}
 use Rattle.std.proofs.lemmas.Bool.Decides.{nat_tests}
 use Rattle.level.specs.declared.side.Side.{Side}
@@ -7,7 +7,7 @@ use Rattle.level.specs.Kind.{Kind}
 use Rattle.recipe.specs.Elements.{Offsets, gather}
 use Rattle.recipe.proofs.Gathered.{gather_taken, gather_left}
 use Rattle.steps.specs.Images.{Size, Place, Inside, Image, moved, among, lands, bound, unbounded, folded}
-use Rattle.steps.specs.Planes.{places, index, Holds, Outside, Kept, Apart}
+use Rattle.steps.specs.Planes.{places, index, Holds, Kept, Apart}
 use Rattle.steps.specs.Written.{Filled, Bounded, RowFolded}
 use Rattle.steps.proofs.Written.{row_fits, index_fits, holds_kept, apart_out}
 

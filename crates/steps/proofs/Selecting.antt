@@ -1,7 +1,6 @@
 -- Windows gathered offset by offset, and the choice among the windows of the candidates.
-use Rattle.std.proofs.Common.{◌≡◌, ℕ, zero, suc, ◌+◌, ◌-◌, ◌*◌, ◌/◌, ◌%◌, ◌<◌, ◌≤◌, Bool, true, false, cond, ◌&&◌, T, List, [], ◌∷◌, ◌++◌, length, get_or, Some, None, Option, sym, refl, ap, ◌∙◌, subst, ap₂, ⊎_elim, arith, length-append}
+use Rattle.std.proofs.Common.{◌≡◌, ℕ, zero, suc, ◌+◌, ◌-◌, ◌/◌, ◌%◌, ◌<◌, ◌≤◌, Bool, true, false, cond, ◌&&◌, T, List, [], ◌∷◌, ◌++◌, length, Some, None, Option, sym, refl, ap, ◌∙◌, subst, ap₂, arith, length-append}
 use Rattle.std.specs.List.{AllByRecursion as All}
-use Rattle.std.proofs.lemmas.List.{get_or_read}
 use Rattle.std.proofs.lemmas.Bool.{and_parts, and_from}
 use Rattle.std.proofs.lemmas.Bool.Decides.{nat_tests}
 use Rattle.level.specs.declared.side.Side.{Side}
@@ -9,18 +8,16 @@ use Rattle.level.specs.Kind.{Kind}
 use Rattle.recipe.specs.Elements.{Offsets, gather, turned}
 use Rattle.recipe.proofs.Gathered.{gather_taken, gather_left, lower, nearest}
 use Rattle.rule.specs.declared.window.Window.{Window}
-use Rattle.rule.specs.Ranks.{Numbers, numbers, Ranks, Made as Of-ranks}
-use Rattle.rule.specs.Windows.{numbers_single, numbers_more, made, highest_below}
+use Rattle.rule.specs.Ranks.{Numbers, numbers, Ranks}
+use Rattle.rule.specs.Windows.{made, highest_below}
 use Rattle.rule.specs.Views.{seen, standing}
 use Rattle.rule.specs.Criterion.{Criterion}
-use Rattle.rule.specs.Choice.{Winner, nobody, somebody, winner, best, settled, selection, Lies}
+use Rattle.rule.specs.Choice.{somebody, winner, best, selection, Lies}
 use Rattle.rule.proofs.Chosen.{best_more}
 use Rattle.rule.proofs.Choosing.{choice}
 use Rattle.steps.specs.Images.{Size, Place, Inside, Image, moved, among, lands}
-use Rattle.steps.specs.Selections.{ranks_seen, candidates, selected}
-use Rattle.steps.specs.Planes.{places, index, Holds}
+use Rattle.steps.specs.Selections.{ranks_seen, candidates}
 use Rattle.steps.specs.Windowed.{WindowOf}
-use Rattle.steps.proofs.Written.{index_fits}
 use Rattle.steps.proofs.Folding.{among_tells, among_low}
 use Rattle.steps.proofs.Changing.{gather_takes}
 

@@ -1,12 +1,12 @@
 -- What the steps do to a stack of planes.
-use Rattle.std.proofs.Common.{◌≡◌, ℕ, ◌+◌, ◌-◌, ◌*◌, ◌<◌, ◌≤◌, true, List, [], ◌∷◌, length, get_or, sym, refl, ap, ◌∙◌, subst, inl, inr, mul-le-mul_right, mul-le-mul, mul-le-mul_left, arith}
+use Rattle.std.proofs.Common.{◌≡◌, ℕ, ◌+◌, ◌-◌, ◌*◌, ◌<◌, ◌≤◌, List, [], ◌∷◌, length, get_or, sym, refl, ap, ◌∙◌, subst, inl, mul-le-mul_right, mul-le-mul, mul-le-mul_left, arith}
 use Rattle.level.specs.Kind.{Kind}
 use Rattle.rule.specs.Criterion.{Criterion}
 use Rattle.recipe.specs.Steps.{Change, negation, Merge, Form, start, change, merge, wants, adds}
 use Rattle.recipe.specs.Machines.{by_form}
-use Rattle.steps.specs.Images.{Size, Place, Inside, Image, negative}
+use Rattle.steps.specs.Images.{Size, Image, negative}
 use Rattle.steps.specs.Recipes.{on_planes, changed, merged}
-use Rattle.steps.specs.Planes.{places, index, Holds, Outside, Kept, Spared, Apart, Copied, Made, Changed, Merged}
+use Rattle.steps.specs.Planes.{places, index, Holds, Outside, Apart, Copied, Made, Changed, Merged}
 use Rattle.steps.specs.Stacks.{plane_at, Stacked, Ready, Applied}
 use Rattle.steps.proofs.Written.{index_fits}
 

@@ -1,5 +1,5 @@
 -- Planes: parts of a lent block that hold an image, row by row from the top.
-use Rattle.std.specs.Prelude.{◌≡◌, ℕ, ◌+◌, ◌*◌, ◌<◌, ◌≤◌, ◌⊎◌, List, [], ◌∷◌, length, slice_index_or}
+use Rattle.std.specs.Prelude.{◌≡◌, ℕ, ◌+◌, ◌*◌, ◌<◌, ◌≤◌, ◌⊎◌, List, slice_index_or}
 use Rattle.level.specs.Kind.{Kind}
 use Rattle.steps.specs.declared.extent.Extent.{Extent}
 use Rattle.steps.specs.Images.{Size, Place, Inside, Image}

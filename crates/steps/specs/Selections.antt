@@ -1,5 +1,5 @@
 -- Selecting: each place takes the value of the best window around it.
-use Rattle.std.specs.Prelude.{ℕ, Bool, ◌&&◌, List, [], ◌∷◌, ◌++◌}
+use Rattle.std.specs.Prelude.{ℕ, ◌&&◌, List, [], ◌∷◌, ◌++◌}
 use Rattle.level.specs.declared.side.Side.{Side}
 use Rattle.level.specs.Kind.{Kind}
 use Rattle.rule.specs.Ranks.{Numbers, numbers}

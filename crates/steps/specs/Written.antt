@@ -3,7 +3,7 @@ use Rattle.std.specs.Prelude.{◌≡◌, ℕ, ◌+◌, ◌-◌, ◌<◌, cond, L
 use Rattle.level.specs.declared.side.Side.{Side}
 use Rattle.level.specs.Kind.{Kind}
 use Rattle.recipe.specs.Elements.{Offsets}
-use Rattle.steps.specs.Images.{Size, Place, Image, among, bound, folded}
+use Rattle.steps.specs.Images.{Size, Image, among, bound, folded}
 use Rattle.steps.specs.Planes.{Holds, Kept}
 
 -- the n levels from `at` on are one level

@@ -1,4 +1,6 @@
 // The twelve steps of recipes, on the planes of one lent block.
+#![tactic(auto)]
+
 pub mod apply;
 pub mod extent;
 pub mod fold;

@@ -1,4 +1,4 @@
-use Rattle.std.proofs.Common.{◌≡◌, length, sym, ap, ◌∙◌, subst}
+use Rattle.std.proofs.Common.{length, sym, subst}
 use Rattle.recipe.specs.declared.step.Step.{Step}
 use Rattle.recipe.specs.Steps.{form}
 use Rattle.steps.specs.Planes.{size_of}

@@ -1,4 +1,4 @@
-use Rattle.std.proofs.Common.{◌≡◌, ℕ, length, sym, ap, ◌∙◌, subst, arith}
+use Rattle.std.proofs.Common.{◌≡◌, ℕ, length, sym, ap, subst, arith}
 use Rattle.recipe.specs.declared.plan.Plan.{Plan}
 use Rattle.steps.specs.Planes.{size_of}
 use Rattle.cell.specs.Shows.{Housed, Worked}

@@ -8,7 +8,7 @@ use Rattle.controller.proofs.run.run.Goals as goal
 
 pub returns-in_err-admit : goal.returns-in_err-admit
 returns-in_err-admit g c =
-    let p = err_from_is_err_and c.from-residual.result c.from-residual.ensures.1 in
+    let p = err_from_is_err_and c.from_residual.result c.from_residual.ensures.1 in
     let s = setting c.args.width c.args.height (length c.args.block.now) in
     let b = c.in_err-admit.ensures.happens s [] c.new-cell.ensures.behind in
     rw (p.1, p.2) (record {
@@ -31,7 +31,7 @@ returns-then-out-frame g c =
 
 pub returns-in_err-slip : goal.returns-in_err-slip
 returns-in_err-slip g c =
-    let p = err_from_is_err_and c.from-residual-in_err-slip.result c.from-residual-in_err-slip.ensures.1 in
+    let p = err_from_is_err_and c.from_residual-in_err-slip.result c.from_residual-in_err-slip.ensures.1 in
     let K = g.Pixel.Level.kind in
     let C = g.Selector.Rule.criterion in
     let s = setting c.args.width c.args.height (length c.args.block.now) in

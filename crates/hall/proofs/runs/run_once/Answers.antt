@@ -11,7 +11,7 @@ returns-in_err-admit g c =
     let s = setting c.args.width c.args.height (length c.args.block.now) in
     let f = map g.Pixel.Level.meaning c.args.frame.now in
     let b = c.in_err-admit.ensures.happens s [] c.new-cell.ensures.behind in
-    let p = err_from_is_err_and c.from-residual.result c.from-residual.ensures.1 in
+    let p = err_from_is_err_and c.from_residual.result c.from_residual.ensures.1 in
     rw (p.1, p.2) (record {
       answer = not_admitted g.Pixel.Level.kind g.Selector.Rule.criterion s c.args.recipe.now f (length c.args.out.now) _ b.can.1;
       output = refl;
@@ -23,7 +23,7 @@ returns-in_err-slip g c =
     let f = map g.Pixel.Level.meaning c.args.frame.now in
     let b = c.in_ok-admit.ensures.happens s [] c.new-cell.ensures.behind in
     let d = c.in_err-slip.ensures.happens s _ b in
-    let p = err_from_is_err_and c.from-residual-in_err-slip.result c.from-residual-in_err-slip.ensures.1 in
+    let p = err_from_is_err_and c.from_residual-in_err-slip.result c.from_residual-in_err-slip.ensures.1 in
     rw (p.1, p.2) (record {
       answer = not_laid g.Pixel.Level.kind g.Selector.Rule.criterion s c.args.recipe.now f (length c.args.out.now) c.in_ok-admit.field-0 b.can.1 _ d.can.1;
       output = refl;

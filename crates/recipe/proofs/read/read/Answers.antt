@@ -1,5 +1,4 @@
 use Rattle.std.proofs.Common.{◌≡◌, ℕ, true, sym, ap, ◌∙◌, subst}
-use Rattle.recipe.specs.declared.element.Element.{Element}
 use Rattle.recipe.specs.Elements.{is_element}
 use Rattle.recipe.specs.Plans.{named, kind}
 use Rattle.recipe.proofs.Reading.{from_new, reads_plain, reads_looking}

@@ -6,4 +6,4 @@ use Rattle.script.proofs.levels.levels.Goals as goal
 pub loop-word-preserved : goal.loop-word-preserved
 loop-word-preserved g c =
     let spells = g.L.Written.spells in
-    subst (Spelled spells) (sym c.in_ok-push.ensures.items) (spelled_more spells _ c.in-Some-read.level c.in-Some.word.now c.in-Some-read.ensures c.loop-word.invariant)
+    subst (Spelled spells) (sym c.in_ok-push-in-Some-read.ensures.items) (spelled_more spells _ c.in-Some-read.level c.in-Some.word.now c.in-Some-read.ensures c.loop-word.invariant)

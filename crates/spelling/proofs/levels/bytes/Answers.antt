@@ -15,7 +15,7 @@ loop-i-preserved c =
     let w = c.args.digits.now in
     let i = c.loop-i.i in
     reads_on w (vec_items c.loop-i.bytes) i (omega (arith, c.loop-i-test.true)) c.loop-i.invariant c.in-Some.byte c.in-Some.ensures
-    ∙ ap (λ t. after t (hex_bytes (drop (2 * (i + 1)) w))) (sym c.in_ok-push.ensures.items)
+    ∙ ap (λ t. after t (hex_bytes (drop (2 * (i + 1)) w))) (sym c.in_ok-push-in-Some.ensures.items)
 
 pub returns : goal.returns
 returns c =

@@ -33,7 +33,7 @@ loop-rest-preserved g c =
     let more = reading_more spells text rest (vec_items c.loop-rest.levels) (some_left rest _ c.is_empty.ensures c.loop-rest-test.true) c.loop-rest.invariant.1 c.in-Some.level (subst (λ w. spells w c.in-Some.level) c.parted.ensures.word c.in-Some.ensures) in (
       c.parted.ensures.utf8,
       subst (λ r. Reading spells text r (vec_items c.push.new.self)) (sym c.parted.ensures.rest)
-          (subst (Reading spells text (further rest)) (sym c.in_ok-push.ensures.items) more),
+          (subst (Reading spells text (further rest)) (sym c.in_ok-push-in-Some.ensures.items) more),
     )
 
 pub returns : goal.returns

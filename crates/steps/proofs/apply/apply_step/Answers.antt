@@ -1,4 +1,4 @@
-use Rattle.std.proofs.Common.{◌≡◌, true, refl, ap, ◌∙◌, subst, arith}
+use Rattle.std.proofs.Common.{ap, arith}
 use Rattle.level.specs.declared.side.Side.TheVariants.{Low, High}
 use Rattle.recipe.specs.Steps.{form, reads_ranks, folding, filtering, selecting, bounding, averaging}
 use Rattle.steps.proofs.Stacking.{top_fits, scratch_fits, few_planes, frame_apart, scratch_apart, two_apart, started, negated_top, changed_top, merged_top}

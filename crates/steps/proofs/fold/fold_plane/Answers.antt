@@ -1,5 +1,4 @@
 use Rattle.std.proofs.Common.{length, arith, rules}
-use Rattle.steps.proofs.Written.{row_fits}
 use Rattle.steps.proofs.Folding.{row_of, rows_none, rows_more}
 use Rattle.steps.proofs.fold.fold_plane.Goals as goal
 

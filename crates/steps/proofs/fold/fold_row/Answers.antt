@@ -1,6 +1,5 @@
-use Rattle.std.proofs.Common.{◌≡◌, ◌&&◌, length, sym, ◌∙◌, ap₂, arith, rules}
+use Rattle.std.proofs.Common.{◌&&◌, length, sym, ◌∙◌, ap₂, arith, rules}
 use Rattle.std.proofs.lemmas.Bool.{and_parts}
-use Rattle.steps.specs.Planes.{size_of}
 use Rattle.steps.proofs.Folding.{row_there, upto_none, upto_skip, upto_more, upto_all}
 use Rattle.steps.proofs.fold.fold_row.Goals as goal
 use Rattle.steps.proofs.fold.fold_row.Goals.{then-has-is_among, else-has-is_among}

@@ -1,5 +1,4 @@
 use Rattle.std.proofs.Common.{ap, ◌∙◌, arith}
-use Rattle.std.proofs.lemmas.List.{get_or_read}
 use Rattle.steps.proofs.Written.{row_fits}
 use Rattle.steps.proofs.select.level_at.Goals as goal
 

@@ -1,4 +1,4 @@
-use Rattle.std.proofs.Common.{◌≡◌, ℕ, ◌+◌, ◌*◌, ◌/◌, ◌%◌, ◌<◌, ◌≤◌, sym, ap, ◌∙◌, subst, ap₂, ⊎_elim, arith}
+use Rattle.std.proofs.Common.{◌≡◌, ◌/◌, ◌%◌, ap, ◌∙◌, ⊎_elim, arith}
 use lib.Arith.{digits_div, digits_mod}
 use Rattle.std.proofs.lemmas.Nat.{div_below, mod_below}
 use Rattle.recipe.specs.Elements.{offsets}

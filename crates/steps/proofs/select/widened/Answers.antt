@@ -1,7 +1,6 @@
-use Rattle.std.proofs.Common.{◌≡◌, ℕ, ◌<◌, List, [], ◌∷◌, ◌++◌, length, Some, None, sym, ap, ◌∙◌, subst, arith}
-use Rattle.rule.specs.Ranks.{Numbers, numbers, more}
+use Rattle.std.proofs.Common.{◌≡◌, ◌<◌, [], ◌∷◌, ◌++◌, Some, sym, ap, ◌∙◌, subst}
+use Rattle.rule.specs.Ranks.{numbers, more}
 use Rattle.rule.specs.Windows.{numbers_single, numbers_more}
-use Rattle.rule.specs.Views.{seen}
 use Rattle.steps.specs.Windowed.{WindowOf}
 use Rattle.steps.proofs.select.widened.Goals as goal
 

@@ -1,4 +1,4 @@
-use Rattle.std.proofs.Common.{◌≡◌, map, length, sym, refl, ◌∙◌}
+use Rattle.std.proofs.Common.{map, sym, refl, ◌∙◌}
 use Rattle.std.proofs.lemmas.List.{length-map}
 use Rattle.cell.specs.declared.calls.Phase.TheVariants.{Ready}
 use Rattle.cell.proofs.Behinds.{in_phase, misfit, laid_in}

@@ -1,4 +1,4 @@
-use Rattle.std.proofs.Common.{◌≡◌, ◌-◌, sym, refl, ◌∙◌, subst}
+use Rattle.std.proofs.Common.{◌-◌, sym, refl, subst}
 use Rattle.cell.specs.declared.calls.Phase.{Phase}
 use Rattle.cell.specs.declared.calls.Phase.TheVariants.{Running}
 use Rattle.cell.specs.Cells.{PhaseLeaves}

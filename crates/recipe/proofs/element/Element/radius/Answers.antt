@@ -1,4 +1,4 @@
-use Rattle.std.proofs.Common.{◌≡◌, ℕ, ◌≤◌, max, cond, sym, refl, ap, ◌∙◌, subst, arith}
+use Rattle.std.proofs.Common.{◌≡◌, max, sym, refl, subst, arith}
 use Rattle.recipe.specs.Elements.{gather, offsets, distance, GreatestDistance}
 use Rattle.recipe.proofs.Gathered.{gather_taken, gather_left, radius_greatest}
 use Rattle.recipe.proofs.element.Element.radius.Goals as goal

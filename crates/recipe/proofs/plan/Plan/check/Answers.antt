@@ -1,8 +1,7 @@
-use Rattle.std.proofs.Common.{◌≡◌, ℕ, ◌+◌, ◌-◌, ◌*◌, ◌/◌, ◌<◌, ◌≤◌, true, List, length, take, drop, sym, refl, ap, ◌∙◌, subst, arith, length-set}
+use Rattle.std.proofs.Common.{◌≡◌, ℕ, ◌+◌, ◌-◌, ◌*◌, ◌/◌, ◌<◌, ◌≤◌, List, length, take, drop, sym, refl, ap, ◌∙◌, subst, arith, length-set}
 use Rattle.std.proofs.lemmas.Result.{err_from_is_err_and}
 use Rattle.recipe.specs.declared.step.Step.{Step}
 use Rattle.recipe.specs.Refusals.{record_refusal, plan_refusal}
-use Rattle.recipe.specs.Depths.{runs}
 use Rattle.recipe.specs.Plans.{Answer, given, reads, record_at, steps_of, steps_from}
 use Rattle.recipe.specs.Tables.{progress}
 use Rattle.recipe.proofs.Checking.{read_is, read_refused, place_refused, place_given, steps_next}
@@ -18,7 +17,7 @@ recorded bytes i a e =
 
 pub returns-in_err-step : goal.returns-in_err-step
 returns-in_err-step c =
-    let p = err_from_is_err_and c.from-residual.result c.from-residual.ensures.1 in
+    let p = err_from_is_err_and c.from_residual.result c.from_residual.ensures.1 in
     let bytes = c.args.bytes.now in
     let i = c.loop-i.i in
     let r = record_refusal c.in_err-step.field-0.0 in
@@ -28,7 +27,7 @@ returns-in_err-step c =
 
 pub returns-in_err-place : goal.returns-in_err-place
 returns-in_err-place c =
-    let p = err_from_is_err_and c.from-residual-in_err-place.result c.from-residual-in_err-place.ensures.1 in
+    let p = err_from_is_err_and c.from_residual-in_err-place.result c.from_residual-in_err-place.ensures.1 in
     let bytes = c.args.bytes.now in
     let i = c.loop-i.i in
     let r = plan_refusal c.in_err-place.field-0.0 in
@@ -73,7 +72,7 @@ invariant_of-result c =
     let one = low c.args.ranked bytes c.if-length.false c.loop-i.i (progress t) c.loop-i-test.false c.loop-i.invariant.0 (omega arith) in
     let all = sound c.args.ranked bytes c.if-length.false c.loop-i.i (progress t) c.loop-i-test.false c.loop-i.invariant.0 (omega arith) in
     let steps = filled bytes c.loop-i.steps c.loop-i.i c.loop-i-test.false (omega arith) c.loop-i.invariant.1 in
-    (c.loop-i.invariant.2, (few.0, (few.1, (omega arith, (rw (planes, steps) all, tt)))))
+    record { long = c.loop-i.invariant.2; some = few.0; few = few.1; low = omega arith; sound = rw (planes, steps) all }
 
 pub returns : goal.returns
 returns c =

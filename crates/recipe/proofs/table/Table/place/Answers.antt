@@ -1,4 +1,4 @@
-use Rattle.std.proofs.Common.{◌≡◌, not, ◌&&◌, ltb, leb, length, sym, refl, ap, ◌∙◌, ap₂}
+use Rattle.std.proofs.Common.{not, ◌&&◌, ltb, leb, sym, refl, ap, ◌∙◌, ap₂}
 use Rattle.std.proofs.lemmas.Bool.{lt-ltb, le-ltb}
 use Rattle.recipe.specs.Plans.{given}
 use Rattle.recipe.proofs.Refusing.{pass, stop}

@@ -1,7 +1,7 @@
-use Rattle.std.proofs.Common.{◌≡◌, ℕ, suc, ◌-◌, sym, ap, ◌∙◌, arith}
+use Rattle.std.proofs.Common.{◌≡◌, suc, ◌-◌, sym, ap, ◌∙◌, arith}
 use Rattle.recipe.specs.declared.entry.Entry.{Entry}
 use Rattle.recipe.specs.declared.entry.Sheet.{Sheet}
-use Rattle.recipe.specs.Sheets.{marks_of, sheet_of, top}
+use Rattle.recipe.specs.Sheets.{marks_of, sheet_of}
 use Rattle.recipe.specs.Tables.{top_down}
 use Rattle.recipe.proofs.table.Table.sheet.Goals as goal
 use Rattle.recipe.proofs.table.Table.sheet.Goals.{then-self-eq0, else-self-eq0}

@@ -1,12 +1,10 @@
-use Rattle.std.proofs.Common.{◌≡◌, ℕ, ◌<◌, ◌≤◌, List, [], length, take, sym, refl, ap, ◌∙◌, subst, arith, length-take-le, get_or-take}
+use Rattle.std.proofs.Common.{◌≡◌, ℕ, ◌<◌, ◌≤◌, List, length, take, sym, refl, ap, ◌∙◌, subst, arith, length-take-le, get_or-take}
 use Rattle.recipe.specs.declared.plan.Plan.{Plan}
 use Rattle.recipe.specs.declared.step.Step.{Step}
 use Rattle.recipe.specs.declared.step.Step.TheVariants.{Frame}
-use Rattle.recipe.specs.Plans.{Progress}
-use Rattle.recipe.specs.Tables.{progress}
 use Rattle.report.specs.declared.line.Line.{Line}
 use Rattle.report.specs.Lines.{lines_from, lines}
-use Rattle.report.proofs.Walking.{Walked, steps_in, not_begun, walked_on}
+use Rattle.report.proofs.Walking.{steps_in, not_begun, walked_on}
 use Rattle.report.proofs.listing.Listing.of_plan.Goals as goal
 
 -- a plan has as many steps as it says
@@ -31,7 +29,7 @@ filled xs ls i n l k e h =
     subst (λ m. take m ls ≡ lines_from xs m 0) all h ∙ ap (λ m. lines_from xs m 0) (sym e)
 
 pub invariant_of-result : goal.invariant_of-result
-invariant_of-result c = (c.loop-i.invariant.long, (c.args.plan.now.few, tt))
+invariant_of-result c = record { long = c.loop-i.invariant.long; few = c.args.plan.now.few }
 
 pub returns : goal.returns
 returns c =

@@ -1,4 +1,4 @@
-use Rattle.std.proofs.Common.{◌≡◌, ◌<◌, true, length, is_ok, refl, arith}
+use Rattle.std.proofs.Common.{◌≡◌, ◌<◌, true, length, is_ok, arith}
 use Rattle.report.proofs.Writing.{none_put, line_put, last_put}
 use Rattle.report.proofs.listing.ListingDisplay.fmt.Goals as goal
 

@@ -1,4 +1,4 @@
-use Rattle.std.proofs.Common.{◌≡◌, ◌+◌, ◌*◌, [], ◌∷◌, Some, sym, ap, ◌∙◌, ap₂, arith}
+use Rattle.std.proofs.Common.{◌+◌, ◌*◌, [], Some, sym, ap, ◌∙◌, ap₂}
 use Rattle.script.specs.Texts.{hex_bytes, followed}
 use Rattle.script.proofs.Spelled.{four}
 use Rattle.script.proofs.kinds.LabelsWritten.read.Goals as goal

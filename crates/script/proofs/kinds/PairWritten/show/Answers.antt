@@ -1,4 +1,4 @@
-use Rattle.std.proofs.Common.{◌≡◌, ◌∷◌, ◌++◌, ◌∙◌, ap₂}
+use Rattle.std.proofs.Common.{◌∷◌, ◌++◌, ◌∙◌, ap₂}
 use Rattle.script.proofs.Spelled.{made_map}
 use Rattle.script.proofs.kinds.PairWritten.show.Goals as goal
 

@@ -10,7 +10,7 @@ returns-then-digits-ne4 c x f = c.if-digits-ne4.true (ap length c.as_bytes-digit
 pub returns-in_err-low : goal.returns-in_err-low
 returns-in_err-low c =
     let same = c.as_bytes-digits.ensures.value in
-    subst (Read (λ t y. Flagged t y.flags) c.args.word.now) (sym c.from-residual-in_err-low.ensures)
+    subst (Read (λ t y. Flagged t y.flags) c.args.word.now) (sym c.from_residual-in_err-low.ensures)
     (λ x f. flagged_low c.as_bytes-digits.result.now x.flags (subst (λ t. Flagged t x.flags) (sym same) f) (sym c.in_err-low.ensures))
 
 pub returns : goal.returns

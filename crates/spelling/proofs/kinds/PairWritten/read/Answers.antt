@@ -6,17 +6,17 @@ use Rattle.spelling.proofs.kinds.PairWritten.read.Goals as goal
 
 pub returns-in_err-first : goal.returns-in_err-first
 returns-in_err-first g c =
-    subst (Read (λ t x. Joined g.A.Written.spells g.B.Written.spells t x.first x.second) c.args.word.now) (sym c.from-residual.ensures)
+    subst (Read (λ t x. Joined g.A.Written.spells g.B.Written.spells t x.first x.second) c.args.word.now) (sym c.from_residual.ensures)
     (λ x j. joined_parts g.A.Written.spells g.B.Written.spells c.args.word.now None c.in_err-first.ensures.cases x.first x.second j)
 
 pub returns-in_err-read : goal.returns-in_err-read
 returns-in_err-read g c =
-    subst (Read (λ t x. Joined g.A.Written.spells g.B.Written.spells t x.first x.second) c.args.word.now) (sym c.from-residual-in_err-read.ensures)
+    subst (Read (λ t x. Joined g.A.Written.spells g.B.Written.spells t x.first x.second) c.args.word.now) (sym c.from_residual-in_err-read.ensures)
     (λ x j. c.in_err-read.ensures x.first (joined_parts g.A.Written.spells g.B.Written.spells c.args.word.now (Some (c.in_ok-first.first, c.in_ok-first.second)) c.in_ok-first.ensures.cases x.first x.second j).0)
 
 pub returns-in_err-read-2 : goal.returns-in_err-read-2
 returns-in_err-read-2 g c =
-    subst (Read (λ t x. Joined g.A.Written.spells g.B.Written.spells t x.first x.second) c.args.word.now) (sym c.from-residual-in_err-read-2.ensures)
+    subst (Read (λ t x. Joined g.A.Written.spells g.B.Written.spells t x.first x.second) c.args.word.now) (sym c.from_residual-in_err-read-2.ensures)
     (λ x j. c.in_err-read-2.ensures x.second (joined_parts g.A.Written.spells g.B.Written.spells c.args.word.now (Some (c.in_ok-first.first, c.in_ok-first.second)) c.in_ok-first.ensures.cases x.first x.second j).1)
 
 pub returns : goal.returns
