@@ -1,6 +1,6 @@
 -- What it says of a recipe that it is admitted: its steps find their ranks, they leave one plane, and the sheet is that of its entry.
 use Rattle.std.proofs.Common.{◌≡◌, ℕ, zero, suc, ◌+◌, ◌-◌, ◌/◌, Bool, true, false, not, ◌&&◌, T, ltb, leb, List, length, sym, refl, ap, ◌∙◌, subst, true≢false, arith, leb→le, ltb-false}
-use Rattle.std.specs.List.{AllByRecursion as All}
+use Rattle.std.specs.List.{AllByRecursion as Every}
 use Rattle.level.specs.Kind.{Kind}
 use Rattle.recipe.specs.declared.step.Step.{Step}
 use Rattle.recipe.specs.declared.entry.Sheet.{Sheet}
@@ -30,7 +30,7 @@ module _ (ranked : Bool) where
 
   -- what n records from record i on did to the entries
   record Walked (bytes : List ℕ) (n i : ℕ) (t u : Progress) : Type 0 where
-    suits : All Finds (steps_from bytes n i)
+    suits : Every Finds (steps_from bytes n i)
     entries : u.entries ≡ run on_entries (steps_from bytes n i) t.entries
 
   walked_given : (bytes : List ℕ) (n i : ℕ) (t u : Progress) → walked ranked bytes n i t ≡ given u → Walked bytes n i t u

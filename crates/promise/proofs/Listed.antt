@@ -1,7 +1,7 @@
 -- What is gathered into a list: an element for each number that is taken.
 use Rattle.std.proofs.Common.{◌≡◌, ℕ, zero, suc, ◌<◌, ◌≤◌, Bool, true, false, cond, T, List, [], ◌∷◌, ◌++◌, map, length, sym, refl, ap, ◌∙◌, ap₂, inl, inr, arith, length-append}
 use mathlib.Core.List.{map-append}
-use Rattle.std.specs.List.{AllByRecursion as All}
+use Rattle.std.specs.List.{AllByRecursion as Every}
 use Rattle.std.proofs.ByRecursion.{All-append}
 use Rattle.rule.specs.Choice.{In}
 use Rattle.rule.proofs.Chosen.{all_in}
@@ -21,14 +21,14 @@ in_right : {A : Type 0} (x : A) (xs ys : List A) → In x ys → In x (xs ++ ys)
 in_right x [] ys h = h
 in_right x (z ∷ xs) ys h = inr (in_right x xs ys h)
 
-all_none : {A : Type 0} (xs : List A) → All (λ _. ⊥) xs → xs ≡ []
+all_none : {A : Type 0} (xs : List A) → Every (λ _. ⊥) xs → xs ≡ []
 all_none [] h = refl
 all_none (x ∷ xs) h = absurd h.0
 
 module _ {A : Type 0} (takes : ℕ → Bool) (value : ℕ → A) where
-  pub listed_all : (P : A → Type 0) (n : ℕ) → ((b : ℕ) → b < n → T (takes b) → P (value b)) → All P (listed takes value n)
+  pub listed_all : (P : A → Type 0) (n : ℕ) → ((b : ℕ) → b < n → T (takes b) → P (value b)) → Every P (listed takes value n)
   listed_all P n h =
-      related (λ xs (ys : List A). All P xs) ◌++◌ ◌++◌ (λ a c b d u v. All-append P a c u v) [] [] tt takes _ (λ b. []) n
+      related (λ xs (ys : List A). Every P xs) ◌++◌ ◌++◌ (λ a c b d u v. All-append P a c u v) [] [] tt takes _ (λ b. []) n
       (λ b l t. (h b l t, tt))
 
   -- what is listed is the value of a number taken, and the value of each is listed

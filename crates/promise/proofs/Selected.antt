@@ -1,6 +1,6 @@
 -- A selected level lies between the levels of the windows, depends on them and on the level there was alone, and turns with them.
 use Rattle.std.proofs.Common.{◌≡◌, ℕ, ◌-◌, ◌≤◌, true, ◌&&◌, List, map, sym, refl, ap, ◌∙◌, ap₂, arith}
-use Rattle.std.specs.List.{AllByRecursion as All}
+use Rattle.std.specs.List.{AllByRecursion as Every}
 use Rattle.std.proofs.ByRecursion.{All-weaker}
 use Rattle.level.specs.declared.side.Side.{Side}
 use Rattle.level.specs.Sides.{opposite}
@@ -19,7 +19,7 @@ use Rattle.promise.proofs.Seen.{Sees, turn, leads_seen, seen_leads}
 use Rattle.promise.proofs.Listed.{listed, listed_all, listed_few, listed_some, listed_map, listed_same}
 
 module _ (K : Kind) (s : Size) (E : Offsets) (f : Image K) where
-  ranks_all : (P : ℕ → Type 0) (c : Place) → ((q : Place) → Sees s E c q → P (K.rank (f q))) → All P (ranks_seen K s E f c)
+  ranks_all : (P : ℕ → Type 0) (c : Place) → ((q : Place) → Sees s E c q → P (K.rank (f q))) → Every P (ranks_seen K s E f c)
   ranks_all P c h = listed_all _ (λ b. K.rank (f (moved c b))) P 25 (λ b l t. h (moved c b) (leads_seen E b (l, t)))
 
   -- a centre that sees a place has the ranks of a window
@@ -37,7 +37,7 @@ module _ (K : Kind) (w : K.ranked ≡ true) (s : Size) (E : Offsets) (f : Image 
   abbrev windows : List (List ℕ)
   windows = listed (λ b. E b && lands s p b) (λ b. ranks_seen K s (turned E) f (moved p b)) 25
 
-  windows_ranks : All (Ranks K.top) windows
+  windows_ranks : Every (Ranks K.top) windows
   windows_ranks =
       listed_all _ (λ b. ranks_seen K s (turned E) f (moved p b)) (Ranks K.top) 25
       (λ b l t. window_ranks K s (turned E) f w (moved p b) p (turn i (leads_seen E b (l, t))))
@@ -47,7 +47,7 @@ module _ (K : Kind) (w : K.ranked ≡ true) (s : Size) (E : Offsets) (f : Image 
 
   candidates_lie : (low high : ℕ) →
       ((c q : Place) → Sees s E p c → Sees s (turned E) c q → (low ≤ K.rank (f q)) × (K.rank (f q) ≤ high)) →
-      All (Lies low high) (candidates K s E f p)
+      Every (Lies low high) (candidates K s E f p)
   candidates_lie low high all =
       listed_all _ (λ b. numbers (ranks_seen K s (turned E) f (moved p b))) (Lies low high) 25 (λ b l t.
       let v = leads_seen E b (l, t) in
@@ -58,10 +58,10 @@ module _ (K : Kind) (w : K.ranked ≡ true) (s : Size) (E : Offsets) (f : Image 
         below = highest_below high _ (ranks_all K s (turned E) f (λ r. r ≤ high) (moved p b) (λ q y. (all _ q v y).1));
       })
 
-  candidates_ranked : All (Lies 0 K.top) (candidates K s E f p)
+  candidates_ranked : Every (Lies 0 K.top) (candidates K s E f p)
   candidates_ranked = candidates_lie 0 K.top (λ c q v y. (omega arith, K.rank_top w _))
 
-  pub candidates_made : All Made (candidates K s E f p)
+  pub candidates_made : Every Made (candidates K s E f p)
   candidates_made = All-weaker (Lies 0 K.top) Made (λ v h. h.made) _ candidates_ranked
 
 module _ (K : Kind) (w : K.ranked ≡ true) (s : Size) (C : Criterion) (d : Side) (E : Offsets) (f : Image K) (p : Place) (i : Inside s p) where

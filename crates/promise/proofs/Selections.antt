@@ -1,6 +1,6 @@
 -- The level that is selected is that of every best window.
 use Rattle.std.proofs.Common.{ℕ, List, [], ◌∷◌, ap, ◌∙◌, subst}
-use Rattle.std.specs.List.{AllByRecursion as All}
+use Rattle.std.specs.List.{AllByRecursion as Every}
 use Rattle.level.specs.declared.side.Side.{Side}
 use Rattle.level.specs.Kind.{Kind}
 use Rattle.rule.specs.Ranks.{Numbers, Made}
@@ -15,7 +15,7 @@ use Rattle.promise.proofs.Listed.{in_listed, listed_in, listed_all, listed_none}
 use Rattle.promise.proofs.Selected.{candidates_made}
 
 -- among candidates there is a best one
-best_of : (C : Criterion) (d : Side) (x : ℕ) (ws : List Numbers) → All Made ws → (w : Numbers) → In w ws → (v : Numbers) × Best C d x ws v
+best_of : (C : Criterion) (d : Side) (x : ℕ) (ws : List Numbers) → Every Made ws → (w : Numbers) → In w ws → (v : Numbers) × Best C d x ws v
 best_of C d x [] h w l = elim l [ ]
 best_of C d x (v ∷ ws) h w l = (choice C).exists d x v ws h
 
@@ -42,5 +42,5 @@ selection_law K C ranked s E f p i d = record {
     ws : List Numbers
     ws = candidates K s E f p
 
-    made : All Made ws
+    made : Every Made ws
     made = candidates_made K ranked s E f p i

@@ -1,6 +1,6 @@
 -- The promises of a recipe's sheet, for every kind of level and every rule.
 use Rattle.std.specs.Prelude.{◌≡◌, ℕ, ◌<◌, true, T, List, [], map, length, take, slice_index_or}
-use Rattle.std.specs.List.{AllByRecursion as All}
+use Rattle.std.specs.List.{AllByRecursion as Every}
 use Rattle.level.specs.Kind.{Kind}
 use Rattle.rule.specs.Criterion.{Criterion}
 use Rattle.recipe.specs.declared.step.Step.{Step}
@@ -22,7 +22,7 @@ Admitted K bytes sheet = checked K.ranked bytes ≡ given sheet
 
 -- the kind has ranks if the steps read them
 abbrev pub Suits : Kind → List Step → Type 0
-Suits K steps = All (λ x. T (reads_ranks (form x)) → K.ranked ≡ true) steps
+Suits K steps = Every (λ x. T (reads_ranks (form x)) → K.ranked ≡ true) steps
 
 -- the entries of the planes that steps leave, the top one first
 abbrev pub entries : List Step → List Entry

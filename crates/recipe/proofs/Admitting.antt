@@ -1,6 +1,6 @@
 -- The check answers the first condition that holds, and else the sheet.
 use Rattle.std.proofs.Common.{◌≡◌, ℕ, zero, suc, ◌+◌, ◌/◌, ◌≤◌, max, Bool, true, false, not, ltb, List, [], ◌∷◌, ◌++◌, length, Some, None, sym, refl, ap, ◌∙◌, ap₂, add-one, arith}
-use Rattle.std.specs.List.{AllByRecursion as All}
+use Rattle.std.specs.List.{AllByRecursion as Every}
 use Rattle.recipe.specs.declared.entry.Entry.{Entry}
 use Rattle.recipe.specs.declared.entry.Sheet.{Sheet}
 use Rattle.recipe.specs.declared.fault.Layer.TheVariants.{Plan}
@@ -100,15 +100,15 @@ module _ (ranked : Bool) (bytes : List ℕ) where
 
 -- What that says of the conditions.
 
-all_unmet : {A : Type 0} (cs : List Condition) (a : Answer A) → All Unmet cs → first_of cs a ≡ a
+all_unmet : {A : Type 0} (cs : List Condition) (a : Answer A) → Every Unmet cs → first_of cs a ≡ a
 all_unmet [] a h = refl
 all_unmet (c ∷ cs) a h = ap (λ t. unless t c.answer (first_of cs a)) h.0 ∙ all_unmet cs a h.1
 
-given_unmet : {A : Type 0} (cs : List Condition) (x y : A) → first_of cs (given x) ≡ given y → All Unmet cs
+given_unmet : {A : Type 0} (cs : List Condition) (x y : A) → first_of cs (given x) ≡ given y → Every Unmet cs
 given_unmet [] x y e = tt
 given_unmet (c ∷ cs) x y e = pick c.holds refl e (given_unmet cs x y)
   where
-    pick : (t : Bool) → c.holds ≡ t → unless t c.answer (first_of cs (given x)) ≡ given y → (first_of cs (given x) ≡ given y → All Unmet cs) → All Unmet (c ∷ cs)
+    pick : (t : Bool) → c.holds ≡ t → unless t c.answer (first_of cs (given x)) ≡ given y → (first_of cs (given x) ≡ given y → Every Unmet cs) → Every Unmet (c ∷ cs)
     pick true h e ih = absurd (let z : ◌≡◌ {A = ℕ} 0 1 = cc in omega arith)
     pick false h e ih = (h, ih e)
 

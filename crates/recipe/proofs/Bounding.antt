@@ -1,6 +1,6 @@
 -- A sheet's planes and reach are bounded.
 use Rattle.std.proofs.Common.{◌≡◌, ℕ, zero, suc, ◌+◌, ◌-◌, ◌*◌, ◌/◌, ◌%◌, ◌≤◌, Bool, true, not, eqb, ltb, leb, List, [], ◌∷◌, length, None, sym, ap, ◌∙◌, subst, ⊎_elim, arith}
-use Rattle.std.specs.List.{AllByRecursion as All}
+use Rattle.std.specs.List.{AllByRecursion as Every}
 use Rattle.std.proofs.lemmas.Bool.{cases_lt, and_parts, leb-true, not-false}
 use Rattle.recipe.specs.declared.entry.Entry.{Entry}
 use Rattle.recipe.specs.declared.fault.Layer.TheVariants.{Plan}
@@ -23,7 +23,7 @@ radius_small E =
 
 -- every entry reaches m at most
 abbrev Near : ℕ → List Entry → Type 0
-Near m st = All (λ e. e.reach ≤ m) st
+Near m st = Every (λ e. e.reach ≤ m) st
 
 near_wider : (m n : ℕ) → m ≤ n → (st : List Entry) → Near m st → Near n st
 near_wider m n l [] h = tt

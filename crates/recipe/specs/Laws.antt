@@ -1,6 +1,6 @@
 -- Laws of admission.
 use Rattle.std.specs.Prelude.{◌≡◌, ℕ, zero, suc, ◌+◌, ◌/◌, ◌≤◌, max, Bool, true, false, not, ◌↔◌, List, [], ◌∷◌, ◌++◌, length, Some, None, nat_lt}
-use Rattle.std.specs.List.{AllByRecursion as All}
+use Rattle.std.specs.List.{AllByRecursion as Every}
 use Rattle.level.specs.declared.side.Side.{Side}
 use Rattle.recipe.specs.declared.element.Element.{Element}
 use Rattle.recipe.specs.declared.step.Step.{Step}
@@ -68,12 +68,12 @@ pub record First (cs : List Condition) (r : Refusal) : Type 0 where
   pub before : List Condition
   pub after : List Condition
   pub split : cs ≡ before ++ (when true r ∷ after)
-  pub passed : All Unmet before
+  pub passed : Every Unmet before
 
 -- a recipe is admitted exactly when no condition holds, with the sheet of its steps; else the first that holds is answered
 pub record Admission (ranked : Bool) (bytes : List ℕ) : Type 0 where
-  pub admitted : All Unmet (conditions ranked bytes) → checked ranked bytes ≡ given (sheet_from (steps_of bytes))
-  pub unmet : (s : Sheet) → checked ranked bytes ≡ given s → All Unmet (conditions ranked bytes)
+  pub admitted : Every Unmet (conditions ranked bytes) → checked ranked bytes ≡ given (sheet_from (steps_of bytes))
+  pub unmet : (s : Sheet) → checked ranked bytes ≡ given s → Every Unmet (conditions ranked bytes)
   pub first : (r : Refusal) → checked ranked bytes ≡ refused r → First (conditions ranked bytes) r
   pub stopped : (r : Refusal) → First (conditions ranked bytes) r → checked ranked bytes ≡ refused r
 

@@ -1,6 +1,6 @@
 -- The fold over the candidates ends at a best one, and all best ones are rounded alike.
 use Rattle.std.proofs.Common.{◌≡◌, ℕ, ◌≤◌, Bool, true, false, cond, not, T, ◌⊎◌, List, [], ◌∷◌, ◌++◌, sym, refl, ap, ◌∙◌, subst, inl, inr, ⊎_elim, arith}
-use Rattle.std.specs.List.{AllByRecursion as All}
+use Rattle.std.specs.List.{AllByRecursion as Every}
 use Rattle.rule.specs.Ranks.{Numbers, Made, Ranks, numbers}
 use Rattle.rule.specs.Fractions.{Equal, rounded, Rounded}
 use Rattle.rule.specs.Criterion.{Criterion}
@@ -11,7 +11,7 @@ use Rattle.rule.proofs.Lifted.{laws}
 use Rattle.rule.proofs.Fractions.{rounded_nearest, rounded_one, rounded_between}
 use Rattle.rule.proofs.Order.{won, lost, ahead_itself, ahead_through, both_ahead}
 
-pub all_in : {X : Type 0} (P : X → Type 0) (xs : List X) (x : X) → All P xs → In x xs → P x
+pub all_in : {X : Type 0} (P : X → Type 0) (xs : List X) (x : X) → Every P xs → In x xs → P x
 all_in P [] x h i = absurd i
 all_in P (y ∷ ys) x h (inl e) = subst P (sym e) h.0
 all_in P (y ∷ ys) x h (inr i) = all_in P ys x h.1 i
@@ -40,7 +40,7 @@ module _ (C : Criterion) (side : Side) (x : ℕ) where
       record { one = inl refl; made = m; first = ahead_itself C side x v m; second = lost C side x w v n m (subst (λ t. T (not t)) (sym e) tt) }
 
   -- the fold ends at a best one
-  pub fold_best : (w : Numbers) (ws : List Numbers) → Made w → All Made ws →
+  pub fold_best : (w : Numbers) (ws : List Numbers) → Made w → Every Made ws →
       (v : Numbers) × (best_after C side x (somebody w) ws ≡ somebody v) × Best C side x (w ∷ ws) v
   fold_best w [] m ms = (w, refl, record { among = inl refl; ahead = (ahead_itself C side x w m, tt) })
   fold_best w (u ∷ us) m ms =
@@ -64,7 +64,7 @@ module _ (C : Criterion) (side : Side) (x : ℕ) where
         },
       )
 
-  pub exists : (w : Numbers) (ws : List Numbers) → All Made (w ∷ ws) → (v : Numbers) × Best C side x (w ∷ ws) v
+  pub exists : (w : Numbers) (ws : List Numbers) → Every Made (w ∷ ws) → (v : Numbers) × Best C side x (w ∷ ws) v
   exists w ws ms = let r = fold_best w ws ms.0 ms.1 in (r.0, r.2)
 
   pub one_value : (ws : List Numbers) (v w : Numbers) → Best C side x ws v → Best C side x ws w → Equal (C.value v) (C.value w)
@@ -83,7 +83,7 @@ module _ (C : Criterion) (side : Side) (x : ℕ) where
       let d = (laws C).positive w m in
       rounded_one side (C.value w) (C.value w) k (rounded side (C.value w)) d d refl r (nearest w m)
 
-  pub selected : (ws : List Numbers) → All Made ws → (w : Numbers) → Best C side x ws w → selection C side x ws ≡ rounded side (C.value w)
+  pub selected : (ws : List Numbers) → Every Made ws → (w : Numbers) → Best C side x ws w → selection C side x ws ≡ rounded side (C.value w)
   selected [] ms w b = absurd b.among
   selected (u ∷ us) ms w b =
       let r = fold_best u us ms.0 ms.1 in
@@ -97,21 +97,21 @@ module _ (C : Criterion) (side : Side) (x : ℕ) where
   rounded_within w m =
       rounded_between side (C.value w) w.lowest w.highest _ ((laws C).positive w m) ((laws C).not_below w m) ((laws C).not_above w m) (nearest w m)
 
-  pub between : (ws : List Numbers) → All Made ws → (w : Numbers) → Best C side x ws w →
+  pub between : (ws : List Numbers) → Every Made ws → (w : Numbers) → Best C side x ws w →
       (w.lowest ≤ selection C side x ws) × (selection C side x ws ≤ w.highest)
   between ws ms w b =
       subst (λ k. (w.lowest ≤ k) × (k ≤ w.highest)) (sym (selected ws ms w b)) (rounded_within w (all_in Made ws w ms b.among))
 
 -- ranks from low to high make a window that lies there
-pub lies : (low high : ℕ) (rs : List ℕ) → Ranks 65535 rs → All (λ r. low ≤ r) rs → All (λ r. r ≤ high) rs → Lies low high (numbers rs)
+pub lies : (low high : ℕ) (rs : List ℕ) → Ranks 65535 rs → Every (λ r. low ≤ r) rs → Every (λ r. r ≤ high) rs → Lies low high (numbers rs)
 lies low high rs h above below =
     record { made = made rs h; above = lowest_above low rs h.some above; below = highest_below high rs below }
 
-lies_made : (low high : ℕ) (ws : List Numbers) → All (Lies low high) ws → All Made ws
+lies_made : (low high : ℕ) (ws : List Numbers) → Every (Lies low high) ws → Every Made ws
 lies_made low high [] _ = tt
 lies_made low high (w ∷ ws) h = (h.0.made, lies_made low high ws h.1)
 
-pub within : (C : Criterion) (side : Side) (low high x : ℕ) → low ≤ x → x ≤ high → (ws : List Numbers) → All (Lies low high) ws →
+pub within : (C : Criterion) (side : Side) (low high x : ℕ) → low ≤ x → x ≤ high → (ws : List Numbers) → Every (Lies low high) ws →
     (low ≤ selection C side x ws) × (selection C side x ws ≤ high)
 within C side low high x l h [] _ = (l, h)
 within C side low high x l h (w ∷ ws) all =

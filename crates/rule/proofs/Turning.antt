@@ -1,6 +1,6 @@
 -- When every rank r becomes t - r and low and high are exchanged, the best windows remain the best.
 use Rattle.std.proofs.Common.{◌≡◌, ℕ, ◌-◌, ◌≤◌, T, List, [], ◌∷◌, map, sym, refl, ap, ◌∙◌, subst, ap₂, inl, inr, arith}
-use Rattle.std.specs.List.{AllByRecursion as All}
+use Rattle.std.specs.List.{AllByRecursion as Every}
 use Rattle.rule.specs.Ranks.{Numbers, Made, Ranks, numbers, flipped, flipped_numbers}
 use Rattle.rule.specs.Fractions.{SumTo, away, rounded}
 use Rattle.rule.specs.Criterion.{Criterion}
@@ -72,25 +72,25 @@ module _ (C : Criterion) (t : ℕ) (small : t ≤ 65535) where
             sided = λ g n. sided_flipped side (a.sided (back g) (near_back n));
           }
 
-    all_flipped : (v : Numbers) → UpTo t v → (ws : List Numbers) → All (UpTo t) ws → All (Ahead C side x v) ws → All (Ahead C (opposite side) (t - x) (flip v)) (map flip ws)
+    all_flipped : (v : Numbers) → UpTo t v → (ws : List Numbers) → Every (UpTo t) ws → Every (Ahead C side x v) ws → Every (Ahead C (opposite side) (t - x) (flip v)) (map flip ws)
     all_flipped v h [] _ _ = tt
     all_flipped v h (w ∷ ws) k a = (ahead_flipped v w h k.0 a.0, all_flipped v h ws k.1 a.1)
 
-    best_flipped : (ws : List Numbers) → All (UpTo t) ws → (w : Numbers) → Best C side x ws w → Best C (opposite side) (t - x) (map flip ws) (flip w)
+    best_flipped : (ws : List Numbers) → Every (UpTo t) ws → (w : Numbers) → Best C side x ws w → Best C (opposite side) (t - x) (map flip ws) (flip w)
     best_flipped ws hs w b = record {
       among = in_map flip ws w b.among;
       ahead = all_flipped w (all_in (UpTo t) ws w hs b.among) ws hs b.ahead;
     }
 
-    all_made : (ws : List Numbers) → All (UpTo t) ws → All Made ws
+    all_made : (ws : List Numbers) → Every (UpTo t) ws → Every Made ws
     all_made [] _ = tt
     all_made (w ∷ ws) h = (h.0.made, all_made ws h.1)
 
-    all_flip_made : (ws : List Numbers) → All (UpTo t) ws → All Made (map flip ws)
+    all_flip_made : (ws : List Numbers) → Every (UpTo t) ws → Every Made (map flip ws)
     all_flip_made [] _ = tt
     all_flip_made (w ∷ ws) h = (flip_made w h.0, all_flip_made ws h.1)
 
-    selection_flipped : (ws : List Numbers) → All (UpTo t) ws → selection C (opposite side) (t - x) (map flip ws) ≡ t - selection C side x ws
+    selection_flipped : (ws : List Numbers) → Every (UpTo t) ws → selection C (opposite side) (t - x) (map flip ws) ≡ t - selection C side x ws
     selection_flipped [] _ = refl
     selection_flipped (u ∷ us) hs =
         let ms = all_made (u ∷ us) hs in
@@ -110,16 +110,16 @@ module _ (C : Criterion) (t : ℕ) (small : t ≤ 65535) where
 
 -- the same of lists of ranks
 
-all_up_to : (t : ℕ) → t ≤ 65535 → (cs : List (List ℕ)) → All (Ranks t) cs → All (UpTo t) (map numbers cs)
+all_up_to : (t : ℕ) → t ≤ 65535 → (cs : List (List ℕ)) → Every (Ranks t) cs → Every (UpTo t) (map numbers cs)
 all_up_to t small [] _ = tt
 all_up_to t small (c ∷ cs) h =
     (record { made = made c (wider t 65535 c small h.0); below = highest_below t c h.0.below }, all_up_to t small cs h.1)
 
-lists_flipped : (t : ℕ) (cs : List (List ℕ)) → All (Ranks t) cs → map (flipped_numbers t) (map numbers cs) ≡ map numbers (map (flipped t) cs)
+lists_flipped : (t : ℕ) (cs : List (List ℕ)) → Every (Ranks t) cs → map (flipped_numbers t) (map numbers cs) ≡ map numbers (map (flipped t) cs)
 lists_flipped t [] _ = refl
 lists_flipped t (c ∷ cs) h = ap₂ (λ x xs. x ∷ xs) (sym (numbers_flipped t c h.0)) (lists_flipped t cs h.1)
 
-module _ (C : Criterion) (t : ℕ) (small : t ≤ 65535) (side : Side) (x : ℕ) (rank : x ≤ t) (cs : List (List ℕ)) (hs : All (Ranks t) cs) where
+module _ (C : Criterion) (t : ℕ) (small : t ≤ 65535) (side : Side) (x : ℕ) (rank : x ≤ t) (cs : List (List ℕ)) (hs : Every (Ranks t) cs) where
   pub flips_best : (w : Numbers) → Best C side x (map numbers cs) w → Best C (opposite side) (t - x) (map numbers (map (flipped t) cs)) (flipped_numbers t w)
   flips_best w b =
       subst (λ ws. Best C (opposite side) (t - x) ws (flipped_numbers t w)) (lists_flipped t cs hs) (best_flipped C t small x rank side (map numbers cs) (all_up_to t small cs hs) w b)

@@ -1,6 +1,6 @@
 -- The choice at one place: which of the candidate windows wins, and the rank that its value is rounded to.
 use Rattle.std.specs.Prelude.{◌≡◌, ℕ, ◌-◌, ◌≤◌, Bool, cond, not, ◌&&◌, ◌||◌, T, ◌⊎◌, List, [], ◌∷◌, map}
-use Rattle.std.specs.List.{AllByRecursion as All}
+use Rattle.std.specs.List.{AllByRecursion as Every}
 use Rattle.rule.specs.Ranks.{Numbers, Ranks, Made, numbers, flipped, flipped_numbers}
 use Rattle.rule.specs.Fractions.{Fraction, Equal, AtMost, less, away, rounded, Rounded}
 use Rattle.rule.specs.Criterion.{Criterion}
@@ -82,7 +82,7 @@ pub record Ahead (C : Criterion) (side : Side) (x : ℕ) (v w : Numbers) : Type 
 -- w is a best one of the candidates ws: ahead of each of them, or level with it
 pub record Best (C : Criterion) (side : Side) (x : ℕ) (ws : List Numbers) (w : Numbers) : Type 0 where
   pub among : In w ws
-  pub ahead : All (Ahead C side x w) ws
+  pub ahead : Every (Ahead C side x w) ws
 
 -- the window's ranks lie from low to high
 pub record Lies (low high : ℕ) (w : Numbers) : Type 0 where
@@ -101,20 +101,20 @@ pub record Choice (C : Criterion) : Type 0 where
   -- with no candidate the rank remains
   pub none : (side : Side) (x : ℕ) → selection C side x [] ≡ x
   -- where there is a candidate, there is a best one
-  pub exists : (side : Side) (x : ℕ) (w : Numbers) (ws : List Numbers) → All Made (w ∷ ws) → (v : Numbers) × Best C side x (w ∷ ws) v
+  pub exists : (side : Side) (x : ℕ) (w : Numbers) (ws : List Numbers) → Every Made (w ∷ ws) → (v : Numbers) × Best C side x (w ∷ ws) v
   -- best ones have one value
   pub one_value : (side : Side) (x : ℕ) (ws : List Numbers) (v w : Numbers) → Best C side x ws v → Best C side x ws w → Equal (C.value v) (C.value w)
   -- the rank that is selected is the rounded value of every best one
-  pub selected : (side : Side) (x : ℕ) (ws : List Numbers) → All Made ws → (w : Numbers) → Best C side x ws w → selection C side x ws ≡ rounded side (C.value w)
+  pub selected : (side : Side) (x : ℕ) (ws : List Numbers) → Every Made ws → (w : Numbers) → Best C side x ws w → selection C side x ws ≡ rounded side (C.value w)
   -- it lies between the lowest and the highest rank of every best one
-  pub between : (side : Side) (x : ℕ) (ws : List Numbers) → All Made ws → (w : Numbers) → Best C side x ws w →
+  pub between : (side : Side) (x : ℕ) (ws : List Numbers) → Every Made ws → (w : Numbers) → Best C side x ws w →
       (w.lowest ≤ selection C side x ws) × (selection C side x ws ≤ w.highest)
   -- so it keeps within bounds that the place and all candidates keep
-  pub within : (side : Side) (low high x : ℕ) → low ≤ x → x ≤ high → (ws : List Numbers) → All (Lies low high) ws →
+  pub within : (side : Side) (low high x : ℕ) → low ≤ x → x ≤ high → (ws : List Numbers) → Every (Lies low high) ws →
       (low ≤ selection C side x ws) × (selection C side x ws ≤ high)
   -- when every rank r becomes t - r and low and high are exchanged, the best ones remain the best
-  pub flips_best : (t : ℕ) → t ≤ 65535 → (side : Side) (x : ℕ) → x ≤ t → (cs : List (List ℕ)) → All (Ranks t) cs → (w : Numbers) →
+  pub flips_best : (t : ℕ) → t ≤ 65535 → (side : Side) (x : ℕ) → x ≤ t → (cs : List (List ℕ)) → Every (Ranks t) cs → (w : Numbers) →
       Best C side x (map numbers cs) w → Best C (opposite side) (t - x) (map numbers (map (flipped t) cs)) (flipped_numbers t w)
   -- and the rank k that is selected becomes t - k
-  pub flips : (t : ℕ) → t ≤ 65535 → (side : Side) (x : ℕ) → x ≤ t → (cs : List (List ℕ)) → All (Ranks t) cs →
+  pub flips : (t : ℕ) → t ≤ 65535 → (side : Side) (x : ℕ) → x ≤ t → (cs : List (List ℕ)) → Every (Ranks t) cs →
       selection C (opposite side) (t - x) (map numbers (map (flipped t) cs)) ≡ t - selection C side x (map numbers cs)

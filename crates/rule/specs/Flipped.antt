@@ -1,7 +1,7 @@
 -- Lemmas, for the proofs of every rule: what becomes of a window's numbers when every rank r becomes t - r.
 use Rattle.std.specs.Prelude.{◌≡◌, ℕ, suc, ◌+◌, ◌-◌, ◌*◌, ◌≤◌, List, [], ◌∷◌, length, refl}
 use Rattle.std.proofs.Common.{ap, arith}
-use Rattle.std.specs.List.{AllByRecursion as All}
+use Rattle.std.specs.List.{AllByRecursion as Every}
 use Rattle.rule.specs.Ranks.{Numbers, Ranks, sum, squares, lowest_with, highest_with, lowest, highest, numbers, flipped, flipped_numbers}
 use Rattle.rule.specs.Windows.{highest_below}
 
@@ -24,11 +24,11 @@ length_flipped : (t : ℕ) (rs : List ℕ) → length (flipped t rs) ≡ length 
 length_flipped t [] = refl
 length_flipped t (r ∷ rs) = ap suc (length_flipped t rs)
 
-sum_flipped : (t : ℕ) (rs : List ℕ) → All (λ r. r ≤ t) rs → sum (flipped t rs) + sum rs ≡ length rs * t
+sum_flipped : (t : ℕ) (rs : List ℕ) → Every (λ r. r ≤ t) rs → sum (flipped t rs) + sum rs ≡ length rs * t
 sum_flipped t [] _ = omega arith
 sum_flipped t (r ∷ rs) h = let k = sum_flipped t rs h.1 in let l = h.0 in omega arith
 
-squares_flipped : (t : ℕ) (rs : List ℕ) → All (λ r. r ≤ t) rs → squares (flipped t rs) + 2 * (t * sum rs) ≡ length rs * (t * t) + squares rs
+squares_flipped : (t : ℕ) (rs : List ℕ) → Every (λ r. r ≤ t) rs → squares (flipped t rs) + 2 * (t * sum rs) ≡ length rs * (t * t) + squares rs
 squares_flipped t [] _ = omega arith
 squares_flipped t (r ∷ rs) h = let k = squares_flipped t rs h.1 in omega (arith, square_flipped t r h.0)
 
@@ -40,11 +40,11 @@ highest_flipped : (t a : ℕ) (rs : List ℕ) → highest_with (t - a) (flipped 
 highest_flipped t a [] = refl
 highest_flipped t a (r ∷ rs) = let k = highest_flipped t a rs in omega arith
 
-below_wider : (t u : ℕ) (rs : List ℕ) → t ≤ u → All (λ r. r ≤ t) rs → All (λ r. r ≤ u) rs
+below_wider : (t u : ℕ) (rs : List ℕ) → t ≤ u → Every (λ r. r ≤ t) rs → Every (λ r. r ≤ u) rs
 below_wider t u [] _ _ = tt
 below_wider t u (r ∷ rs) h k = (let l = k.0 in omega arith, below_wider t u rs h k.1)
 
-below_flipped : (t : ℕ) (rs : List ℕ) → All (λ r. r ≤ t) (flipped t rs)
+below_flipped : (t : ℕ) (rs : List ℕ) → Every (λ r. r ≤ t) (flipped t rs)
 below_flipped t [] = tt
 below_flipped t (r ∷ rs) = (omega arith, below_flipped t rs)
 

@@ -1,12 +1,12 @@
 -- Lists of ranks, and the five numbers that a selecting rule sees of such a list.
 use Rattle.std.specs.Prelude.{◌≡◌, ℕ, ◌+◌, ◌-◌, ◌*◌, ◌≤◌, min, max, List, [], ◌∷◌, map, length}
-use Rattle.std.specs.List.{AllByRecursion as All}
+use Rattle.std.specs.List.{AllByRecursion as Every}
 
 -- the ranks of a window: 1 to 25 of them, each at most t
 pub record Ranks (t : ℕ) (rs : List ℕ) : Type 0 where
   pub some : 1 ≤ length rs
   pub few : length rs ≤ 25
-  pub below : All (λ r. r ≤ t) rs
+  pub below : Every (λ r. r ≤ t) rs
 
 -- the sum of some ranks
 abbrev pub sum : List ℕ → ℕ

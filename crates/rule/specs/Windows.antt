@@ -6,7 +6,7 @@ use Rattle.std.proofs.Math.Logic.Or
 use Rattle.std.proofs.Math.Logic.{∥∥₁_elim, ∥∥₁_map}
 use Rattle.std.proofs.Math.Nat.{le_total}
 use Rattle.std.proofs.Math.Bridge.{le_prop}
-use Rattle.std.specs.List.{AllByRecursion as All}
+use Rattle.std.specs.List.{AllByRecursion as Every}
 use Rattle.rule.specs.Ranks.{Numbers, Made, Ranks, single, more, sum, squares, lowest_with, highest_with, lowest, highest, numbers}
 
 -- Numbers. `omega` multiplies products out and takes each monomial as an unknown, so it is handed the facts that are to
@@ -39,11 +39,11 @@ twice_product a b =
 
 -- The sums.
 
-sum_below : (t : ℕ) (rs : List ℕ) → All (λ r. r ≤ t) rs → sum rs ≤ length rs * t
+sum_below : (t : ℕ) (rs : List ℕ) → Every (λ r. r ≤ t) rs → sum rs ≤ length rs * t
 sum_below t [] _ = omega arith
 sum_below t (r ∷ rs) h = let k = sum_below t rs h.1 in let l = h.0 in omega arith
 
-squares_below : (t : ℕ) (rs : List ℕ) → All (λ r. r ≤ t) rs → squares rs ≤ length rs * (t * t)
+squares_below : (t : ℕ) (rs : List ℕ) → Every (λ r. r ≤ t) rs → squares rs ≤ length rs * (t * t)
 squares_below t [] _ = omega arith
 squares_below t (r ∷ rs) h = let k = squares_below t rs h.1 in omega (arith, mul-le-mul h.0 h.0)
 
@@ -80,30 +80,30 @@ highest_start : (a : ℕ) (rs : List ℕ) → a ≤ highest_with a rs
 highest_start a [] = omega arith
 highest_start a (r ∷ rs) = let k = highest_start a rs in omega arith
 
-highest_with_below : (t a : ℕ) (rs : List ℕ) → a ≤ t → All (λ r. r ≤ t) rs → highest_with a rs ≤ t
+highest_with_below : (t a : ℕ) (rs : List ℕ) → a ≤ t → Every (λ r. r ≤ t) rs → highest_with a rs ≤ t
 highest_with_below t a [] h _ = h
 highest_with_below t a (r ∷ rs) h k = let i = highest_with_below t a rs h k.1 in let l = k.0 in omega arith
 
 -- a bound of the ranks is a bound of the highest
-pub highest_below : (t : ℕ) (rs : List ℕ) → All (λ r. r ≤ t) rs → highest rs ≤ t
+pub highest_below : (t : ℕ) (rs : List ℕ) → Every (λ r. r ≤ t) rs → highest rs ≤ t
 highest_below t [] _ = omega arith
 highest_below t (r ∷ rs) h = highest_with_below t r rs h.0 h.1
 
-below_highest_with : (t a : ℕ) (rs : List ℕ) → highest_with a rs ≤ t → All (λ r. r ≤ t) rs
+below_highest_with : (t a : ℕ) (rs : List ℕ) → highest_with a rs ≤ t → Every (λ r. r ≤ t) rs
 below_highest_with t a [] _ = tt
 below_highest_with t a (r ∷ rs) h = (omega arith, below_highest_with t a rs (omega arith))
 
 -- and the other way round
-pub below_highest : (t : ℕ) (rs : List ℕ) → highest rs ≤ t → All (λ r. r ≤ t) rs
+pub below_highest : (t : ℕ) (rs : List ℕ) → highest rs ≤ t → Every (λ r. r ≤ t) rs
 below_highest t [] _ = tt
 below_highest t (r ∷ rs) h = let k = highest_start r rs in (omega arith, below_highest_with t r rs h)
 
-lowest_with_above : (m a : ℕ) (rs : List ℕ) → m ≤ a → All (λ r. m ≤ r) rs → m ≤ lowest_with a rs
+lowest_with_above : (m a : ℕ) (rs : List ℕ) → m ≤ a → Every (λ r. m ≤ r) rs → m ≤ lowest_with a rs
 lowest_with_above m a [] h _ = h
 lowest_with_above m a (r ∷ rs) h k = let i = lowest_with_above m a rs h k.1 in let l = k.0 in omega arith
 
 -- a lower bound of the ranks is one of the lowest
-pub lowest_above : (m : ℕ) (rs : List ℕ) → 1 ≤ length rs → All (λ r. m ≤ r) rs → m ≤ lowest rs
+pub lowest_above : (m : ℕ) (rs : List ℕ) → 1 ≤ length rs → Every (λ r. m ≤ r) rs → m ≤ lowest rs
 lowest_above m [] l h = absurd (let f : ⊥ = omega arith in f)
 lowest_above m (r ∷ rs) l h = lowest_with_above m r rs h.0 h.1
 
@@ -186,7 +186,7 @@ highest_more : (a : ℕ) (rs : List ℕ) (r : ℕ) → highest_with a (rs ++ (r 
 highest_more a [] r = omega arith
 highest_more a (x ∷ rs) r = let k = highest_more a rs r in omega arith
 
-below_more : (t : ℕ) (rs : List ℕ) (r : ℕ) → All (λ x. x ≤ t) rs → r ≤ t → All (λ x. x ≤ t) (rs ++ (r ∷ []))
+below_more : (t : ℕ) (rs : List ℕ) (r : ℕ) → Every (λ x. x ≤ t) rs → r ≤ t → Every (λ x. x ≤ t) (rs ++ (r ∷ []))
 below_more t [] r _ h = (h, tt)
 below_more t (x ∷ rs) r k h = (k.0, below_more t rs r k.1 h)
 

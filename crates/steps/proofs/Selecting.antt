@@ -1,6 +1,6 @@
 -- Windows gathered offset by offset, and the choice among the windows of the candidates.
 use Rattle.std.proofs.Common.{◌≡◌, ℕ, zero, suc, ◌+◌, ◌-◌, ◌/◌, ◌%◌, ◌<◌, ◌≤◌, Bool, true, false, cond, ◌&&◌, T, List, [], ◌∷◌, ◌++◌, length, Some, None, Option, sym, refl, ap, ◌∙◌, subst, ap₂, arith, length-append}
-use Rattle.std.specs.List.{AllByRecursion as All}
+use Rattle.std.specs.List.{AllByRecursion as Every}
 use Rattle.std.proofs.lemmas.Bool.{and_parts, and_from}
 use Rattle.std.proofs.lemmas.Bool.Decides.{nat_tests}
 use Rattle.level.specs.declared.side.Side.{Side}
@@ -48,11 +48,11 @@ module _ {A : Type 0} (takes : ℕ → Bool) (item : ℕ → A) where
       lower (λ xs ys. length ys ≤ length xs) ◌++◌ (λ a b c p q. omega arith) (λ a b. omega (arith, length-append a b)) (λ a b. omega (arith, length-append a b))
       [] takes (λ b. item b ∷ []) n b h (true_T _ e)
 
-  pub listed_all : (P : A → Type 0) (n : ℕ) → ((b : ℕ) → b < n → takes b ≡ true → P (item b)) → All P (listed n)
+  pub listed_all : (P : A → Type 0) (n : ℕ) → ((b : ℕ) → b < n → takes b ≡ true → P (item b)) → Every P (listed n)
   listed_all P n all =
-      nearest (λ _ xs. All P xs) ◌++◌ (λ a b c p q. both a b p q) [] [] tt takes (λ b. item b ∷ []) n (λ b h t. (all b h (T_true _ t), tt))
+      nearest (λ _ xs. Every P xs) ◌++◌ (λ a b c p q. both a b p q) [] [] tt takes (λ b. item b ∷ []) n (λ b h t. (all b h (T_true _ t), tt))
     where
-      both : (xs ys : List A) → All P xs → All P ys → All P (xs ++ ys)
+      both : (xs ys : List A) → Every P xs → Every P ys → Every P (xs ++ ys)
       both [] ys p q = q
       both (x ∷ xs) ys p q = (p.0, both xs ys p.1 q)
 
