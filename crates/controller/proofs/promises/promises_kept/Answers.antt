@@ -4,8 +4,8 @@ use Rattle.controller.proofs.promises.promises_kept.Goals as goal
 
 pub returns : goal.returns
 returns g c =
-    let K = g.Pixel.Level.kind in
-    let C = g.Selector.Rule.criterion in
+    let K = g.S.Pixel.Level.kind in
+    let C = g.S.Selector.Rule.criterion in
     record {
       marks = marked K C (search rules);
       mirror = mirrored_runs K C (search rules);

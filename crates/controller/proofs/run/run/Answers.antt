@@ -12,18 +12,18 @@ returns-in_err-admit g c =
     let s = setting c.args.width c.args.height (length c.args.block.now) in
     let b = c.in_err-admit.ensures.happens s [] c.new-cell.ensures.behind in
     rw (p.1, p.2) (record {
-      answer = not_admitted g.Pixel.Level.kind g.Selector.Rule.criterion s c.args.recipe.now (map g.Pixel.Level.meaning c.args.frame.now) (length c.args.out.now) _ b.can.1;
+      answer = not_admitted g.S.Pixel.Level.kind g.S.Selector.Rule.criterion s c.args.recipe.now (map g.S.Pixel.Level.meaning c.args.frame.now) (length c.args.out.now) _ b.can.1;
       output = refl;
       block = search rules;
     })
 
 pub returns-then-out-frame : goal.returns-then-out-frame
 returns-then-out-frame g c =
-    let m = g.Pixel.Level.meaning in
+    let m = g.S.Pixel.Level.meaning in
     let s = setting c.args.width c.args.height (length c.args.block.now) in
     let b = c.in_ok-admit.ensures.happens s [] c.new-cell.ensures.behind in
     record {
-      answer = not_alike g.Pixel.Level.kind g.Selector.Rule.criterion s c.args.recipe.now (map m c.args.frame.now) (length c.args.out.now) _ b.can.1
+      answer = not_alike g.S.Pixel.Level.kind g.S.Selector.Rule.criterion s c.args.recipe.now (map m c.args.frame.now) (length c.args.out.now) _ b.can.1
           (λ e. omega (arith, length-map c.args.frame.now m));
       output = refl;
       block = search rules;
@@ -32,10 +32,10 @@ returns-then-out-frame g c =
 pub returns-in_err-slip : goal.returns-in_err-slip
 returns-in_err-slip g c =
     let p = err_from_is_err_and c.from_residual-in_err-slip.result c.from_residual-in_err-slip.ensures.1 in
-    let K = g.Pixel.Level.kind in
-    let C = g.Selector.Rule.criterion in
+    let K = g.S.Pixel.Level.kind in
+    let C = g.S.Selector.Rule.criterion in
     let s = setting c.args.width c.args.height (length c.args.block.now) in
-    let f = map g.Pixel.Level.meaning c.args.frame.now in
+    let f = map g.S.Pixel.Level.meaning c.args.frame.now in
     let b1 = c.in_ok-admit.ensures.happens s [] c.new-cell.ensures.behind in
     let b2 = c.in_err-slip.ensures.happens s _ b1 in
     rw (p.1, p.2) (record {
@@ -46,9 +46,9 @@ returns-in_err-slip g c =
 
 pub unreachable-requires : goal.unreachable-requires
 unreachable-requires g c =
-    let K = g.Pixel.Level.kind in
-    let C = g.Selector.Rule.criterion in
-    let m = g.Pixel.Level.meaning in
+    let K = g.S.Pixel.Level.kind in
+    let C = g.S.Selector.Rule.criterion in
+    let m = g.S.Pixel.Level.meaning in
     let s = setting c.args.width c.args.height (length c.args.block.now) in
     let f = map m c.args.frame.now in
     let b1 = c.in_ok-admit.ensures.happens s [] c.new-cell.ensures.behind in
@@ -60,9 +60,9 @@ unreachable-requires g c =
 
 pub returns : goal.returns
 returns g c =
-    let K = g.Pixel.Level.kind in
-    let C = g.Selector.Rule.criterion in
-    let m = g.Pixel.Level.meaning in
+    let K = g.S.Pixel.Level.kind in
+    let C = g.S.Selector.Rule.criterion in
+    let m = g.S.Pixel.Level.meaning in
     let s = setting c.args.width c.args.height (length c.args.block.now) in
     let f = map m c.args.frame.now in
     let b1 = c.in_ok-admit.ensures.happens s [] c.new-cell.ensures.behind in

@@ -10,5 +10,5 @@ loop-i-preserved g c =
       ap (map m) c.in_ok-push.ensures.items
           ∙ map-append m (vec_items c.loop-i.levels) (c.least.result ∷ [])
           ∙ ap₂ (λ xs x. xs ++ x ∷ []) c.loop-i.invariant.1 c.least.ensures
-          ∙ replicate_more c.loop-i.-i g.L.Level.kind.least,
+          ∙ replicate_more c.loop-i._i g.L.Level.kind.least,
     )

@@ -7,10 +7,10 @@ use Rattle.transcripts.proofs.serve.celled_lines.Given as goal
 
 abbrev pub invariant-loop-i : goal.invariant-loop-i
 invariant-loop-i g l =
-    let K = g.Pixel.Level.kind in
-    let m = g.Pixel.Level.meaning in
-    let C = g.Selector.Rule.criterion in
+    let K = g.S.Pixel.Level.kind in
+    let m = g.S.Pixel.Level.meaning in
+    let C = g.S.Selector.Rule.criterion in
     Tidy K m C l.desk
     × ((s : Setting) (h : History K.Level) → s.width ≡ l.width → After K m C l.initial.desk s h
     → (h' : History K.Level) × After K m C l.desk s h'
-    × SoFar (Celled K m C g.Pixel.Written.spells g.Pixel.Written.text s) vec_items l.lines h l.from h' l.i (string_bytes l.text))
+    × SoFar (Celled K m C g.S.Pixel.Written.spells g.S.Pixel.Written.text s) vec_items l.lines h l.from h' l.i (string_bytes l.text))
