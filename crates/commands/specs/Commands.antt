@@ -1,5 +1,5 @@
 -- What a script's lines ask for.
-use Rattle.std.specs.Prelude.{◌≡◌, ℕ, List, [], ◌∷◌, length, Ok, Err, codes, MatchBool, Result, ◌==◌, slice_index}
+use Rattle.std.specs.Prelude.{◌≡◌, ℕ, List, length, Ok, Err, codes, MatchBool, Result, ◌==◌, slice_index}
 use Rattle.spelling.specs.Spellings.{Decimal}
 use Rattle.spelling.specs.Words.{front, further, trimmed}
 use Rattle.commands.specs.declared.command.CallName.{CallName}

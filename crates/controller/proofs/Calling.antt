@@ -1,6 +1,6 @@
 -- The calls of one run, and what they answer together.
-use Rattle.std.proofs.Common.{◌≡◌, ℕ, zero, suc, ◌+◌, ◌-◌, ◌/◌, ◌<◌, ◌≤◌, min, Bool, true, false, not, eqb, List, [], ◌∷◌, length, sym, refl, ap, ◌∙◌, arith}
-use Rattle.std.proofs.lemmas.Bool.{eq-eqb, ne_eqb, not_from_true, not_from_false}
+use Rattle.std.proofs.Common.{◌≡◌, ℕ, zero, suc, ◌+◌, ◌-◌, ◌/◌, ◌≤◌, min, Bool, true, false, not, eqb, List, [], ◌∷◌, length, sym, refl, ap, ◌∙◌, arith}
+use Rattle.std.proofs.lemmas.Bool.{eq-eqb, ne_eqb, not_from_true}
 use Rattle.std.proofs.lemmas.Bool.Decides.{nat_tests}
 use Rattle.level.specs.Kind.{Kind}
 use Rattle.rule.specs.Criterion.{Criterion}
@@ -10,7 +10,7 @@ use Rattle.recipe.specs.Plans.{Answer, given, refused, unless, next, right_lengt
 use Rattle.recipe.proofs.Checking.{let_by, both_given}
 use Rattle.cell.specs.Refusals.{of_cell}
 use Rattle.cell.specs.Histories.{Admit, Lay, Steps, Take, event, History, Setting, pixels, works, housed, image_of, defined}
-use Rattle.cell.proofs.Behinds.{passes, stops}
+use Rattle.cell.proofs.Behinds.{passes}
 use Rattle.cell.proofs.Sound.{passed}
 use Rattle.controller.specs.Runs.{run_answer}
 

@@ -4,12 +4,12 @@ use Rattle.level.specs.Kind.{Kind}
 use Rattle.rule.specs.Criterion.{Criterion}
 use Rattle.recipe.specs.declared.entry.Sheet.{Sheet}
 use Rattle.recipe.specs.Mirrors.{mirror, mirror_sheet}
-use Rattle.recipe.specs.Plans.{Answer, given, refused, mapped, checked, steps_of}
+use Rattle.recipe.specs.Plans.{Answer, given, refused, mapped, steps_of}
 use Rattle.recipe.proofs.Checking.{same_given, let_by, both_given}
 use Rattle.recipe.proofs.Mirroring.{mirror_mirrored}
 use Rattle.std.proofs.lemmas.Bool.{not_from_true}
 use Rattle.cell.specs.Refusals.{of_cell}
-use Rattle.cell.specs.Histories.{Admit, Lay, Steps, Take, event, History, Setting, size, pixels, works, defined}
+use Rattle.cell.specs.Histories.{Admit, Lay, Steps, Take, event, History, Setting, pixels, works, defined}
 use Rattle.cell.specs.Laws.{MarkLaw, MirrorLaw, ReachLaw, Taken}
 use Rattle.cell.proofs.Behinds.{passes}
 use Rattle.controller.specs.Runs.{run_answer}

@@ -1,5 +1,5 @@
 -- What a run leaves of the block.
-use Rattle.std.proofs.Common.{◌≡◌, ℕ, ◌+◌, ◌*◌, ◌≤◌, Bool, not, List, length, get_or, sym, refl, ap, ◌∙◌, subst, mul-le-mul_right, arith}
+use Rattle.std.proofs.Common.{◌≡◌, ℕ, ◌+◌, ◌*◌, ◌≤◌, List, length, get_or, sym, ap, ◌∙◌, subst, mul-le-mul_right, arith}
 use Rattle.level.specs.Kind.{Kind}
 use Rattle.rule.specs.Criterion.{Criterion}
 use Rattle.recipe.specs.declared.entry.Sheet.{Sheet}

@@ -1,4 +1,6 @@
 //! The stage as one call, for a controller written in C: a recipe is checked and run on one frame.
+#![tactic(auto)]
+
 pub mod promises;
 mod run;
 pub mod sheet;

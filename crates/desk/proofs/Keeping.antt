@@ -5,10 +5,8 @@ use Rattle.level.specs.Kind.{Kind}
 use Rattle.rule.specs.Criterion.{Criterion}
 use Rattle.recipe.specs.declared.fault.Refusal.{Refusal}
 use Rattle.recipe.specs.Plans.{Answer, given, refused, unless}
-use Rattle.cell.specs.declared.calls.Cell.{Cell}
 use Rattle.cell.specs.Refusals.{of_cell}
-use Rattle.cell.specs.Histories.{Call, Good, Admit, Lay, Steps, Take, Clear, Event, event, History, Setting, works, is_open, defined, CanHappen}
-use Rattle.cell.specs.Cells.{Happens}
+use Rattle.cell.specs.Histories.{Call, Good, Admit, Lay, Steps, Take, Clear, event, History, Setting, works, is_open, defined, CanHappen}
 use Rattle.recipe.specs.declared.entry.Sheet.{Sheet}
 use Rattle.level.specs.Delivered.{masks}
 use Rattle.cell.specs.Histories.{setting}

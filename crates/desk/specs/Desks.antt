@@ -6,7 +6,7 @@ use Rattle.recipe.specs.Plans.{Answer, given, refused}
 use Rattle.cell.specs.declared.fault.CellFault.{CellFault}
 use Rattle.cell.specs.declared.calls.Cell.{Cell}
 use Rattle.cell.specs.Refusals.{cell_refusal}
-use Rattle.cell.specs.Histories.{Call, Good, Event, event, History, Setting, is_open}
+use Rattle.cell.specs.Histories.{Call, Good, event, History, Setting, is_open}
 use Rattle.cell.specs.Cells.{Stands}
 use Rattle.desk.specs.declared.desk.Desk.{Desk}
 

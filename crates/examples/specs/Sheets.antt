@@ -1,5 +1,5 @@
 -- The listing that the definitions of the sheet must give of the mean of open-close and close-open by the full 3 × 3 square.
-use Rattle.std.specs.Prelude.{◌≡◌, ℕ, Bool, true, false, List, [], ◌∷◌, ◌++◌, map, length, take}
+use Rattle.std.specs.Prelude.{◌≡◌, ℕ, Bool, true, false, List, [], ◌∷◌, ◌++◌, length, take}
 use Rattle.recipe.specs.declared.entry.Marks.{Marks}
 use Rattle.recipe.specs.Plans.{given, checked, steps_of}
 use Rattle.recipe.specs.Machines.{run}

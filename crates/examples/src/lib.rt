@@ -1,4 +1,6 @@
 // Worked rows, shown of the definitions and run through the code.
+#![tactic(auto)]
+
 ghost use Rattle.rule.specs.Variance.{least_variance};
 ghost use Rattle.rule.specs.Range.{least_range};
 ghost use Rattle.examples.specs.Rows.{FoldedRows, SelectedRows, OtherLevels};

@@ -1,4 +1,6 @@
 //! Kinds of level and a selecting rule as a line engineer brings them, and cells that run with them.
+#![tactic(auto)]
+
 pub mod confidences;
 pub mod depths;
 pub mod narrow;

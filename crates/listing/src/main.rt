@@ -1,4 +1,6 @@
 // Lists the recipe on standard input, for grey levels.
+#![tactic(auto)]
+
 use report::listing::Listing;
 use std::io;
 use std::io::Read;

@@ -1,5 +1,7 @@
 // Tells the listings of a table of recipes, one recipe a line: "ranked" or "unranked" levels, and its bytes in hexadecimal.
 // A line that begins with # is told as it stands.
+#![tactic(auto)]
+
 ghost use Rattle.std.specs.Prelude.{ℕ, Bool, List, IfOk};
 ghost use Rattle.report.specs.Listings.{Lists};
 

@@ -1,4 +1,6 @@
 // A rule of one's own: the window of more ranks is better.
+#![tactic(auto)]
+
 ghost use Rattle.most_ranks.specs.Most.{most_ranks};
 ghost use Rattle.most_ranks.specs.Unfair.{PrefersHigh};
 ghost use Rattle.rule.specs.Criterion.{Criterion};

@@ -1,4 +1,6 @@
 // Rehearsals: the calls of a script put to a cell, and its answers printed.
+#![tactic(auto)]
+
 mod answer;
 mod desk;
 mod print;

@@ -1,5 +1,5 @@
 -- Which words spell which levels.
-use Rattle.std.specs.Prelude.{◌≡◌, ℕ, ◌+◌, ◌*◌, ◌^◌, ◌<◌, List, [], ◌∷◌, ◌++◌, length, ℤ, Some, None, Option, MatchOption, FitsSigned, ◌≢◌, slice_index}
+use Rattle.std.specs.Prelude.{◌≡◌, ℕ, ◌+◌, ◌*◌, ◌^◌, ◌<◌, List, [], ◌∷◌, ◌++◌, length, ℤ, Some, Option, MatchOption, FitsSigned, ◌≢◌, slice_index}
 use Rattle.std.specs.Int.{w16}
 use Rattle.std.specs.Str.Parse.{IsNumeral, digits_value, without_leading_plus, without_leading_sign, signed_digits_value}
 use Rattle.spelling.specs.Texts.{hex_bytes}

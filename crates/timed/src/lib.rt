@@ -1,4 +1,6 @@
 // Erosion and selecting of one grey frame of 256 × 256, to be timed from C: bench/README.md says how.
+#![tactic(auto)]
+
 ghost use Rattle.std.specs.Prelude.{true, false, ◌≡◌, ◌≤◌, ◌<◌, length};
 ghost use Rattle.level.specs.declared.side.Side.TheVariants.{Low};
 ghost use Rattle.level.specs.Delivered.{greys, grey};

@@ -1,5 +1,5 @@
 -- Lines as they are served one by one.
-use Rattle.std.proofs.Common.{◌≡◌, ℕ, ◌+◌, ◌<◌, ◌≤◌, List, [], ◌∷◌, ◌++◌, map, length, get_or, drop, Some, None, Ok, Err, Option, Result, sym, refl, ap, ◌∙◌, subst, append_assoc, arith}
+use Rattle.std.proofs.Common.{◌≡◌, ℕ, ◌+◌, ◌<◌, ◌≤◌, List, [], ◌∷◌, ◌++◌, map, length, get_or, drop, Some, None, Option, Result, sym, refl, ap, ◌∙◌, subst, append_assoc}
 use Rattle.std.proofs.lemmas.List.{drop_more, drop_all, append-nil}
 use Rattle.commands.specs.declared.command.Making.{Making}
 use Rattle.commands.specs.Commands.{Asked}
@@ -7,7 +7,7 @@ use Rattle.transcripts.specs.declared.line.Line.{Line}
 use Rattle.transcripts.specs.declared.line.Line.TheVariants.{Silent, Note, Cell, Put, Unserved}
 use Rattle.transcripts.specs.declared.line.Start.{Start}
 use Rattle.transcripts.specs.declared.reply.Trouble.{Trouble}
-use Rattle.transcripts.specs.Transcripts.{ByCell, LineRead, Lines, Onward, heard}
+use Rattle.transcripts.specs.Transcripts.{ByCell, LineRead, Lines, heard}
 
 -- a line that asks for no cell
 other : (line : Line) (new : Making → Type 0) (rest : Type 0) → ((making : Making) → line ≡ Cell making → ⊥) → rest → ByCell (heard line) new rest

@@ -7,7 +7,7 @@ use Rattle.commands.specs.Commands.{Asked, nothing, note, cell, put}
 use Rattle.transcripts.specs.declared.line.Start.{Start}
 use Rattle.transcripts.specs.declared.reply.Trouble.{Trouble}
 use Rattle.transcripts.specs.Replies.{most}
-use Rattle.transcripts.specs.Scripts.{FromStart, Goes, GoesOn, Makes, Prints, Script, ServedAs, StaysIn, World, criterion_of, kind_of, meaning_of, none, one, shown_of, SpellsOf}
+use Rattle.transcripts.specs.Scripts.{FromStart, Goes, GoesOn, Prints, Script, ServedAs, StaysIn, World, criterion_of, kind_of, meaning_of, none, one, shown_of, SpellsOf}
 use Rattle.transcripts.specs.Transcripts.{Bare, ByCell, Celled, Headed, LineRead, Lines, Onward, asked_setting}
 use Rattle.commands.specs.declared.command.KindName.{KindName}
 use Rattle.transcripts.specs.declared.reply.Trouble.TheVariants.{TooLong}

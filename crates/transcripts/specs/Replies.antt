@@ -4,7 +4,7 @@ use Rattle.level.specs.Kind.{Kind}
 use Rattle.rule.specs.Criterion.{Criterion}
 use Rattle.recipe.specs.Plans.{Answer, given, refused}
 use Rattle.report.specs.declared.verdict.Verdict.TheVariants.{Admitted, Refused}
-use Rattle.cell.specs.Histories.{Call, Good, Admit, Lay, Steps, Take, Clear, Event, event, History, Setting, defined}
+use Rattle.cell.specs.Histories.{Call, Good, Admit, Lay, Steps, Take, Clear, event, History, Setting, defined}
 use Rattle.desk.specs.declared.desk.Desk.{Desk}
 use Rattle.desk.specs.Desks.{After}
 use Rattle.commands.specs.Commands.{Put, admit, lay, step, take, clear}

@@ -1,5 +1,5 @@
 -- What a whole script prints, with the kinds of level and the rules that it can name.
-use Rattle.std.specs.Prelude.{◌≡◌, ℕ, ◌+◌, Bool, cond, List, [], ◌∷◌, ◌++◌, ℤ, Some, None, Ok, Err, codes, decimal, MatchBool, Option, Result, nat_le}
+use Rattle.std.specs.Prelude.{◌≡◌, ℕ, ◌+◌, Bool, cond, List, [], ◌∷◌, ◌++◌, ℤ, Some, None, codes, decimal, MatchBool, Option, Result, nat_le}
 use Rattle.level.specs.Kind.{Kind}
 use Rattle.level.specs.Delivered.{greys, grey, heights, height, masks, mask, labels, label}
 use Rattle.level.specs.Pairs.{pair}

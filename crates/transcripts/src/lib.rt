@@ -1,4 +1,6 @@
 // Rehearsals: the calls of a script put to a cell, line by line.
+#![tactic(auto)]
+
 mod line;
 mod put;
 mod reply;

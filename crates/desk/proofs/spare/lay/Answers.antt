@@ -1,10 +1,8 @@
-use Rattle.std.proofs.Common.{false, [], ◌∷◌, length, refl}
-use Rattle.recipe.specs.Plans.{given}
+use Rattle.std.proofs.Common.{false, [], length, refl}
 use Rattle.level.specs.Delivered.{mask}
 use Rattle.rule.specs.Variance.{least_variance}
-use Rattle.cell.specs.Histories.{Admit, Lay, event, setting}
-use Rattle.cell.specs.Cells.{admit_answer}
-use Rattle.desk.proofs.Keeping.{frame_bytes, lays}
+use Rattle.cell.specs.Histories.{setting}
+use Rattle.desk.proofs.Keeping.{lays}
 use Rattle.desk.proofs.spare.lay.Goals as goal
 
 pub unreachable-requires : goal.unreachable-requires

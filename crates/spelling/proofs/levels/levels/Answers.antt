@@ -1,4 +1,4 @@
-use Rattle.std.proofs.Common.{◌≡◌, ℕ, ◌<◌, List, [], length, vec_items, sym, ap, ◌∙◌, subst, arith}
+use Rattle.std.proofs.Common.{◌<◌, length, vec_items, sym, subst}
 use Rattle.spelling.proofs.Parting.{unpadded_from}
 use Rattle.spelling.proofs.Reading.{Reading, reading_starts, reading_more, reading_stuck, reading_ends, further_shorter, some_left, none_left}
 use Rattle.spelling.specs.Words.{further}

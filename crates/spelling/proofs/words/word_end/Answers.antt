@@ -1,4 +1,4 @@
-use Rattle.std.proofs.Common.{length, sym, arith, below_more}
+use Rattle.std.proofs.Common.{sym, arith, below_more}
 use Rattle.spelling.proofs.Parting.{word_ends}
 use Rattle.spelling.proofs.words.word_end.Goals as goal
 

@@ -1,4 +1,4 @@
-use Rattle.std.proofs.Common.{◌≡◌, [], ◌∷◌, ◌++◌, map, vec_items, ap, ◌∙◌, ap₂, arith}
+use Rattle.std.proofs.Common.{[], ◌∷◌, ◌++◌, map, vec_items, ap, ◌∙◌, ap₂, arith}
 use mathlib.Core.List.{map-append}
 use Rattle.std.proofs.lemmas.List.{replicate_more}
 use Rattle.transcripts.proofs.put.blank.Goals as goal

@@ -1,4 +1,4 @@
-use Rattle.std.proofs.Common.{◌≡◌, map, Some, vec_items, sym, refl, ap, ◌∙◌, subst}
+use Rattle.std.proofs.Common.{map, Some, vec_items, sym, refl, ap, ◌∙◌, subst}
 use Rattle.std.specs.Option.{option_map}
 use Rattle.recipe.specs.Plans.{given, refused}
 use Rattle.cell.specs.Histories.{Lay}

@@ -1,4 +1,4 @@
-use Rattle.std.proofs.Common.{◌≡◌, ◌+◌, ◌++◌, vec_items, string_bytes, sym, ap, ◌∙◌, subst}
+use Rattle.std.proofs.Common.{◌+◌, ◌++◌, vec_items, string_bytes, sym, ap, ◌∙◌, subst}
 use Rattle.transcripts.specs.declared.line.Line.TheVariants.{Cell}
 use Rattle.transcripts.specs.Transcripts.{Celled, LineRead, heard}
 use Rattle.transcripts.proofs.Lining.{SoFar, so_far_none, so_far_more, so_far_cell, so_far_all}
@@ -30,7 +30,7 @@ loop-i-preserved g c =
           let e = c.in_ok-answer-in_default.ensures.served s f.0 w f.1 in
           let serves = Celled g.S.Pixel.Level.kind g.S.Pixel.Level.meaning g.S.Selector.Rule.criterion g.S.Pixel.Written.spells g.S.Pixel.Written.text s in
           let more = so_far_more serves vec_items c.args.lines.now h c.args.from f.0 e.0 c.loop-i.i (string_bytes c.loop-i.text) (string_bytes c.in_ok-answer-in_default.answer) c.index-lines-i.result line c.loop-i-test.true c.index-lines-i.is read c.in_default.not-Cell e.1 f.2 in
-          (e.0, e.2, subst (SoFar serves vec_items c.args.lines.now h c.args.from e.0 (c.loop-i.i + 1)) (sym (c.in_ok-push_str.ensures.bytes ∙ ap (λ t. string_bytes c.loop-i.text ++ t) c.as_str.ensures.value)) more),
+          (e.0, e.2, subst (SoFar serves vec_items c.args.lines.now h c.args.from e.0 (c.loop-i.i + 1)) (sym (c.in_ok-push_str-in_default.ensures.bytes ∙ ap (λ t. string_bytes c.loop-i.text ++ t) c.as_str.ensures.value)) more),
     )
 
 pub returns : goal.returns

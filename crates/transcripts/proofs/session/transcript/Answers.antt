@@ -1,4 +1,4 @@
-use Rattle.std.proofs.Common.{◌≡◌, ◌<◌, ◌++◌, length, Some, None, vec_items, string_bytes, sym, ap, ◌∙◌, subst}
+use Rattle.std.proofs.Common.{◌<◌, ◌++◌, length, vec_items, string_bytes, sym, ap, ◌∙◌, subst}
 use Rattle.transcripts.proofs.Scripting.{Printing, left_from, printing_ends, printing_fewer, printing_more, printing_starts}
 use Rattle.transcripts.proofs.session.transcript.Goals as goal
 

@@ -1,4 +1,4 @@
-use Rattle.std.proofs.Common.{◌≡◌, ◌+◌, ◌*◌, [], ◌∷◌, length, Some, sym, ap, ◌∙◌, subst, ap₂}
+use Rattle.std.proofs.Common.{◌+◌, ◌*◌, [], length, Some, sym, ap, ◌∙◌, subst, ap₂}
 use Rattle.spelling.specs.Spellings.{Flagged, Read}
 use Rattle.spelling.specs.Texts.{followed, hex_bytes}
 use Rattle.spelling.proofs.Spelled.{four_bytes, flagged_long, flagged_low}

@@ -1,4 +1,4 @@
-use Rattle.std.proofs.Common.{◌≡◌, ◌∷◌, ◌++◌, ◌∙◌, ap₂}
+use Rattle.std.proofs.Common.{◌∷◌, ◌++◌, ◌∙◌, ap₂}
 use Rattle.spelling.proofs.Spelled.{made_map}
 use Rattle.spelling.proofs.kinds.PairWritten.show.Goals as goal
 
