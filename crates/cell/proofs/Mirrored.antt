@@ -8,11 +8,11 @@ use Rattle.recipe.specs.declared.fault.Refusal.{Refusal}
 use Rattle.recipe.specs.Steps.{mirror_step}
 use Rattle.recipe.specs.Mirrors.{mirror, mirror_sheet}
 use Rattle.recipe.specs.Plans.{Answer, given, refused, unless, next, mapped, checked, steps_of}
-use Rattle.recipe.proofs.Mirroring.{mirror_mirrored, steps_mirror, mirror_law as recipe-mirrored}
+use Rattle.recipe.proofs.Mirroring.{mirror_mirrored, steps_mirror, mirror_law as recipe_mirrored}
 use Rattle.steps.specs.Images.{negative}
 use Rattle.steps.specs.Recipes.{image}
 use Rattle.promise.specs.Laws.{Admitted}
-use Rattle.promise.proofs.Mirrors.{mirror_law as image-mirrored}
+use Rattle.promise.proofs.Mirrors.{mirror_law as image_mirrored}
 use Rattle.cell.specs.Refusals.{of_cell}
 use Rattle.cell.specs.Rasters.{picture}
 use Rattle.cell.specs.Histories.{Call, Admit, Lay, Steps, Take, Clear, Good, Event, event, History, installed_by, installed, laid_by, laid, open_by, is_open, done_by, left, State, state, Setting, size, pixels, housed, image_of, defined, CanHappen}
@@ -30,11 +30,11 @@ module _ (K : Kind) (C : Criterion) where
       let sized = works_sized s r.working in
       let g = picture K z f in
       let steps = steps_of bytes in
-      let a : Admitted K (mirror bytes) (mirror_sheet r.sheet) = (recipe-mirrored K.ranked bytes).answered ∙ ap (mapped mirror_sheet) r.admitted in
+      let a : Admitted K (mirror bytes) (mirror_sheet r.sheet) = (recipe_mirrored K.ranked bytes).answered ∙ ap (mapped mirror_sheet) r.admitted in
       raster_same K z _ (negative K (image K C z steps g))
       (λ p i. image_same K C z sized (mirror bytes) (mirror_sheet r.sheet) a (picture K z (map K.negation f)) (negative K g)
       (picture_negative K z f r.long) p i
-      ∙ image-mirrored K C z bytes r.sheet r.admitted g p i)
+      ∙ image_mirrored K C z bytes r.sheet r.admitted g p i)
       ∙ raster_negative K z (image K C z steps g)
 
   -- x is the mirror of y
@@ -113,7 +113,7 @@ module _ (K : Kind) (C : Criterion) where
   answers s h can (Admit bytes) =
       past (Admit bytes) _ _ (of_cell 1) _ _ refl
       (past (Admit bytes) _ _ (of_cell 2) _ _ (mirror_state h).running
-      (ap (λ a. next a (housed s)) (recipe-mirrored K.ranked bytes).answered ∙ mirror_housed s bytes (checked K.ranked bytes)))
+      (ap (λ a. next a (housed s)) (recipe_mirrored K.ranked bytes).answered ∙ mirror_housed s bytes (checked K.ranked bytes)))
   answers s h can (Lay f) =
       past (Lay f) _ _ (of_cell 1) _ _ refl
       (past (Lay f) _ _ (of_cell 3) _ _ (ap (λ k. eqb k 0) (mirror_long h))

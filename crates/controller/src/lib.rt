@@ -6,7 +6,7 @@ mod run;
 pub mod sheet;
 
 ghost use Rattle.std.specs.Prelude.{length};
-ghost use Rattle.level.specs.Delivered.{greys, grey, heights, height as height-level};
+ghost use Rattle.level.specs.Delivered.{greys, grey, heights, height as height_level};
 ghost use Rattle.rule.specs.Range.{least_range};
 ghost use Rattle.rule.specs.Variance.{least_variance};
 ghost use Rattle.cell.specs.Histories.{setting};
@@ -56,7 +56,7 @@ pub extern "C" fn recipe_stage_height_variance(
     block: &mut [i16],
     out: &mut [i16],
 ) -> u32
-    ensures { Ran heights height-level least_variance (setting width height (length block.old)) recipe.now frame.now block.old block.new out.old out.new result }
+    ensures { Ran heights height_level least_variance (setting width height (length block.old)) recipe.now frame.now block.old block.new out.old out.new result }
 {
     smoothed::<Of<i16, LeastVariance>>(recipe, width, height, frame, block, out)
 }
@@ -71,7 +71,7 @@ pub extern "C" fn recipe_stage_height_range(
     block: &mut [i16],
     out: &mut [i16],
 ) -> u32
-    ensures { Ran heights height-level least_range (setting width height (length block.old)) recipe.now frame.now block.old block.new out.old out.new result }
+    ensures { Ran heights height_level least_range (setting width height (length block.old)) recipe.now frame.now block.old block.new out.old out.new result }
 {
     smoothed::<Of<i16, LeastRange>>(recipe, width, height, frame, block, out)
 }

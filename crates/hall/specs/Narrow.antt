@@ -2,12 +2,9 @@
 use Rattle.std.specs.Prelude.{[], ◌∷◌}
 use Rattle.std.proofs.Common.{arith}
 use Rattle.rule.specs.Criterion.{Criterion}
-use Rattle.rule.specs.Measures.{Measure, least}
+use Rattle.rule.specs.Measures.{least}
 use Rattle.rule.specs.Range.{ranges, middles}
 
--- how many ranks there are: as many when every rank r has become t - r
-abbrev pub counts : Measure
-counts = record { of = λ w. w.count; fair = λ t w v f. omega arith }
-
+-- least range; of equal ranges, least number of ranks, of which there are as many when every rank r has become t - r
 abbrev pub narrow_then_few : Criterion
-narrow_then_few = least (ranges ∷ counts ∷ []) middles
+narrow_then_few = least (ranges ∷ record { of = λ w. w.count; fair = λ t w v f. omega arith } ∷ []) middles

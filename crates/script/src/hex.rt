@@ -1,6 +1,6 @@
 // Hexadecimal digits.
 ghost use Rattle.std.specs.Prelude.{◌≡◌, ◌<◌, Some};
-ghost use Rattle.script.specs.Texts.{hex_value, hex_digit as shown-digit, joined};
+ghost use Rattle.script.specs.Texts.{hex_value, hex_digit as shown_digit, joined};
 
 // The value of a digit, of either case.
 pub fn value(digit: u8) -> Option<u8>
@@ -27,7 +27,7 @@ pub fn byte(high: u8, low: u8) -> Option<u8>
 // The digit of a value below 16.
 pub(crate) fn digit(value: u8) -> char
     requires { value < 16 }
-    ensures is { result ≡ shown-digit value }
+    ensures is { result ≡ shown_digit value }
     ensures ascii { result < 128 }
 {
     let code = if value < 10 { 48 + value } else { 55 + value };

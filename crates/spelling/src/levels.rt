@@ -2,7 +2,7 @@
 ghost use Rattle.std.specs.Prelude.{◌≡◌, IfOk, vec_items, string_bytes};
 ghost use Rattle.std.specs.Option.{option_map};
 ghost use Rattle.spelling.specs.Spellings.{Read, Spell};
-ghost use Rattle.spelling.specs.Texts.{gap as gap-before, hex_bytes, rows_text};
+ghost use Rattle.spelling.specs.Texts.{gap as gap_before, hex_bytes, rows_text};
 ghost use Rattle.spelling.specs.Words.{words as words_of};
 
 use crate::written::Written;
@@ -58,7 +58,7 @@ pub fn rows<L: Written>(heap: Global, width: usize, levels: &[L]) -> Result<Stri
 
 // What stands before the level at a place of an image.
 fn gap(width: usize, at: usize) -> &'static str
-    ensures { result.now ≡ gap-before width at }
+    ensures { result.now ≡ gap_before width at }
 {
     if at == 0 {
         ""

@@ -1,10 +1,10 @@
 // Words of a text.
 ghost use Rattle.std.specs.Prelude.{◌≡◌, IsUtf8};
-ghost use Rattle.spelling.specs.Words.{WordEnds, front, further, trimmed as without-ends};
+ghost use Rattle.spelling.specs.Words.{WordEnds, front, further, trimmed as without_ends};
 
 // The text without the white space at its two ends.
 pub fn trimmed(text: &str) -> &str
-    ensures { result.now ≡ without-ends text.now }
+    ensures { result.now ≡ without_ends text.now }
 {
     text.trim_ascii()
 }

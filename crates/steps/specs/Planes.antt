@@ -16,7 +16,7 @@ places s = s.width * s.height
 abbrev pub index : Size → Place → ℕ
 index s p = p.row * s.width + p.column
 
--- the plane that begins at `at` holds the image f; m says what a level means, and d is there only for `get_or`
+-- the plane that begins at `at` holds the image f; m says what a level means, and d is there only for `slice_index_or`
 abbrev pub Holds : (K : Kind) {X : Type 0} → (X → K.Level) → Size → List X → ℕ → Image K → Type 0
 Holds K {X} m s block at f = (p : Place) (d : X) → Inside s p → m (slice_index_or block (at + index s p) d) ≡ f p
 

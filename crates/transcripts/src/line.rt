@@ -1,5 +1,5 @@
 // Lines of a script.
-ghost use Rattle.transcripts.specs.Transcripts.{LineRead, heard as heard-by};
+ghost use Rattle.transcripts.specs.Transcripts.{LineRead, heard as heard_by};
 ghost use Rattle.commands.specs.Commands.{asked_by};
 ghost use Rattle.std.specs.Prelude.{◌≡◌};
 ghost use Rattle.transcripts.specs.Transcripts.{readable};
@@ -27,7 +27,7 @@ pub struct Start {
 
 // What was read from a text.
 fn heard(read: Result<Command<'_>, Unread>) -> Line<'_>
-    ensures { heard-by result ≡ readable (asked_by read.entry) }
+    ensures { heard_by result ≡ readable (asked_by read.entry) }
 {
     match read {
         Ok(Command::Nothing) => Line::Silent,
@@ -40,7 +40,7 @@ fn heard(read: Result<Command<'_>, Unread>) -> Line<'_>
 
 // Reads a line.
 pub fn read(line: &[u8]) -> Line<'_>
-    ensures { LineRead line.now (heard-by result) }
+    ensures { LineRead line.now (heard_by result) }
 {
     match std::str::from_utf8(line) {
         Ok(text) => heard(command::read(text)),

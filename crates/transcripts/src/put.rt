@@ -3,7 +3,7 @@ ghost use Rattle.std.specs.Prelude.{◌≡◌, map, replicate, is_some, IfSome, 
 ghost use Rattle.report.specs.declared.verdict.Verdict.TheVariants.{Refused as Refusing};
 ghost use Rattle.cell.specs.Refusals.{cell_refusal};
 ghost use Rattle.desk.specs.Desks.{Tidy};
-ghost use Rattle.commands.specs.Commands.{admit as admit-put, clear as clear-put, lay as lay-put, put_by, step as step-put, take as take_put};
+ghost use Rattle.commands.specs.Commands.{admit as admit_put, clear as clear_put, lay as lay_put, put_by, step as step_put, take as take_put};
 ghost use Rattle.transcripts.specs.declared.reply.Reply.TheVariants.{Told};
 ghost use Rattle.transcripts.specs.Replies.{Replied, most};
 
@@ -53,7 +53,7 @@ fn admit<S: Setup>(
 where
     S::Pixel: Written,
     requires { Tidy S.Pixel.Level.kind S.Pixel.Level.meaning S.Selector.Rule.criterion desk.old }
-    ensures { Replied S.Pixel.Level.kind S.Pixel.Level.meaning S.Selector.Rule.criterion S.Pixel.Written.spells desk.old desk.new (admit-put text.now) result }
+    ensures { Replied S.Pixel.Level.kind S.Pixel.Level.meaning S.Selector.Rule.criterion S.Pixel.Written.spells desk.old desk.new (admit_put text.now) result }
 {
     let Some(bytes) = levels::bytes(heap, text.as_bytes())? else {
         return Ok(Reply::Unserved(Trouble::NoBytes));
@@ -73,7 +73,7 @@ fn lay<S: Setup>(
 where
     S::Pixel: Written,
     requires { Tidy S.Pixel.Level.kind S.Pixel.Level.meaning S.Selector.Rule.criterion desk.old }
-    ensures { Replied S.Pixel.Level.kind S.Pixel.Level.meaning S.Selector.Rule.criterion S.Pixel.Written.spells desk.old desk.new (lay-put text.now) result }
+    ensures { Replied S.Pixel.Level.kind S.Pixel.Level.meaning S.Selector.Rule.criterion S.Pixel.Written.spells desk.old desk.new (lay_put text.now) result }
 {
     let Some(frame) = levels::levels::<S::Pixel>(heap, text)? else {
         return Ok(Reply::Unserved(Trouble::NoLevels));
@@ -89,7 +89,7 @@ fn step<S: Setup>(desk: &mut Desk<S>, count: usize) -> Result<Reply<S::Pixel>, A
 where
     S::Pixel: Written,
     requires { Tidy S.Pixel.Level.kind S.Pixel.Level.meaning S.Selector.Rule.criterion desk.old }
-    ensures { Replied S.Pixel.Level.kind S.Pixel.Level.meaning S.Selector.Rule.criterion S.Pixel.Written.spells desk.old desk.new (step-put count) result }
+    ensures { Replied S.Pixel.Level.kind S.Pixel.Level.meaning S.Selector.Rule.criterion S.Pixel.Written.spells desk.old desk.new (step_put count) result }
 {
     match desk.step(count) {
         Ok(stepped) => Ok(Reply::Done(stepped)),
@@ -122,7 +122,7 @@ fn clear<S: Setup>(desk: &mut Desk<S>) -> Result<Reply<S::Pixel>, AllocError>
 where
     S::Pixel: Written,
     requires { Tidy S.Pixel.Level.kind S.Pixel.Level.meaning S.Selector.Rule.criterion desk.old }
-    ensures { Replied S.Pixel.Level.kind S.Pixel.Level.meaning S.Selector.Rule.criterion S.Pixel.Written.spells desk.old desk.new clear-put result }
+    ensures { Replied S.Pixel.Level.kind S.Pixel.Level.meaning S.Selector.Rule.criterion S.Pixel.Written.spells desk.old desk.new clear_put result }
 {
     match desk.clear() {
         Ok(()) => Ok(Reply::Cleared),

@@ -1,4 +1,4 @@
-use Rattle.std.proofs.Common.{arith}
+use Rattle.std.proofs.Common.{arith, rules}
 use Rattle.std.proofs.lemmas.List.{get_or_read}
 use Rattle.cell.proofs.Moving.{written_none, written_more}
 use Rattle.cell.proofs.calls.put.Goals as goal
@@ -7,7 +7,7 @@ pub loop-i-init : goal.loop-i-init
 loop-i-init g c = written_none
 
 pub loop-i-preserved : goal.loop-i-preserved
-loop-i-preserved g c = written_more _ _ _ c.loop-i.invariant (omega arith) (λ d. get_or_read c.args.frame.now c.loop-i.i _ c.loop-i-test.true c.index-frame-i.is d)
+loop-i-preserved g c = written_more _ _ _ c.loop-i.invariant (omega arith) (λ d. let lt = c.loop-i-test.true in search (rules, get_or_read))
 
 pub returns : goal.returns
 returns g c =
