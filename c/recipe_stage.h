@@ -1,8 +1,8 @@
 /*
  * The recipe stage, one call for a whole run: a recipe is checked and run on one frame. docs/CONTROLLER.md says what is promised.
  *
- * Link target/staticlib/libcontroller.a, which `rt staticlib controller` makes. Nothing is allocated and nothing is kept
- * from one call to the next.
+ * Link crates/controller/out/libcontroller.a, which `rt lib` makes in crates/controller. Nothing is allocated and nothing is
+ * kept from one call to the next.
  */
 #ifndef RECIPE_STAGE_H
 #define RECIPE_STAGE_H
