@@ -6,7 +6,8 @@ usage: python3 tools/spelling.py [FOLDER]      once, after port.py, at the top o
 It reads which names the .antt files define with a dash in them, and writes each such name anew wherever it stands in an .antt
 file or in a clause of an .rt file: `least-variance` becomes `least_variance`, `Mark-law` becomes `MarkLaw`. Strings, file
 names, names that Rattle makes (goals, steps) and names of the library stay. It also puts a bound's member behind its parameter
-where port.py could not: `Selector-as-Rule` becomes `S.Selector.Rule`.
+where port.py could not: `Selector-as-Rule` becomes `S.Selector.Rule`. A fact of each element of a list, which port.py imports under
+the name `All` that the gate keeps for another word, becomes `Every`.
 """
 
 import os
@@ -28,6 +29,8 @@ HEAD = re.compile(r"\s*(?:abbrev |unfoldable |opaque )?(?:pub )?(?:abbrev |unfol
 PARAMETER = re.compile(r"[({]((?:%s)(?: %s)*) : " % (WORD, WORD))
 # Goals, invariants and measures are named by Rattle.
 MADE = re.compile(r"goal\.|need\.|given\.")
+ALIAS = re.compile(r"\sas\s+([^\s,{}]+)")
+EACH = "AllByRecursion as All"
 TOKEN = re.compile(r"\"(?:[^\"\\]|\\.)*\"|" + WORD)
 
 
@@ -46,11 +49,13 @@ def is_comment(line):
 def defined(root):
     names, made = set(), set()
     for path in sources(root):
-        if not path.endswith(".antt"):
-            continue
         with open(path, encoding="utf-8") as f:
             for line in f:
                 if is_comment(line):
+                    continue
+                if re.match(r"(?:ghost |pub )?use ", line):
+                    names.update(ALIAS.findall(line))
+                if not path.endswith(".antt"):
                     continue
                 head = HEAD.match(line)
                 if head:
@@ -76,8 +81,10 @@ def main():
         with open(path, encoding="utf-8") as f:
             lines = f.readlines()
 
+        here = turned | ({"All": "Every"} if any(EACH in l for l in lines) else {})
+
         def turn(m):
-            return turned.get(m.group(0), m.group(0))
+            return here.get(m.group(0), m.group(0))
 
         def quoted(m):
             return "`" + TOKEN.sub(turn, m.group(1)) + "`"
