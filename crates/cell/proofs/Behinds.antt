@@ -1,14 +1,13 @@
 -- What each call leaves behind.
-use Rattle.std.proofs.Common.{◌≡◌, ℕ, ◌+◌, ◌-◌, ◌*◌, ◌<◌, ◌≤◌, min, Bool, true, false, eqb, leb, List, [], ◌∷◌, map, length, get_or, take, sym, refl, ap, ◌∙◌, subst, mul-le-mul_right, arith}
+use Rattle.std.proofs.Common.{◌≡◌, ℕ, ◌+◌, ◌-◌, ◌*◌, ◌<◌, ◌≤◌, min, Bool, true, false, eqb, List, [], ◌∷◌, map, length, Some, Option, get_or, take, sym, refl, ap, ◌∙◌, subst, arith}
 use Rattle.std.proofs.lemmas.List.{take_all, length-map, get_or-map}
-use Rattle.std.proofs.lemmas.Bool.{eq-eqb, ne_eqb, lt-leb, le-leb, not_from_true, not_from_false}
+use Rattle.std.proofs.lemmas.Bool.{eq-eqb, ne_eqb, not_from_true, not_from_false}
 use Rattle.level.specs.Kind.{Kind}
 use Rattle.rule.specs.Criterion.{Criterion}
-use Rattle.recipe.specs.declared.entry.Sheet.{Sheet}
 use Rattle.recipe.specs.declared.fault.Refusal.{Refusal}
 use Rattle.recipe.specs.declared.plan.Plan.{Plan}
 use Rattle.recipe.specs.declared.step.Step.{Step}
-use Rattle.recipe.specs.Plans.{Answer, given, refused, unless, next, checked, steps_of}
+use Rattle.recipe.specs.Plans.{Answer, given, refused, unless, steps_of}
 use Rattle.steps.specs.declared.extent.Extent.{Extent}
 use Rattle.steps.specs.Images.{Size, Image}
 use Rattle.steps.specs.Planes.{size_of, places, index}
@@ -16,11 +15,12 @@ use Rattle.steps.specs.Recipes.{planes, top_of}
 use Rattle.steps.specs.Stacks.{plane_at, Stacked}
 use Rattle.steps.proofs.Written.{index_fits}
 use Rattle.cell.specs.declared.calls.Phase.{Phase}
-use Rattle.cell.specs.declared.calls.Phase.TheVariants.{Shut, Bare, Ready, Running}
+use Rattle.cell.specs.declared.calls.Phase.TheVariants.{Ready, Running}
+use Rattle.cell.specs.declared.calls.Open.{Open}
 use Rattle.cell.specs.declared.run.Run.{Run}
 use Rattle.cell.specs.Refusals.{of_cell}
 use Rattle.cell.specs.Rasters.{picture, raster, Put, Got}
-use Rattle.cell.specs.Histories.{Call, Admit, Lay, Steps, Take, Clear, event, History, Setting, size, pixels, works, housed, installed, laid, is_open, done, left, image_of, defined}
+use Rattle.cell.specs.Histories.{Call, Lay, Steps, Take, event, History, Setting, size, pixels, works, installed, laid, is_open, done, left, image_of, defined}
 use Rattle.cell.specs.Cells.{Opened, Fits, Behind}
 use Rattle.cell.specs.Shows.{steps_in, standing, Worked}
 use Rattle.cell.proofs.Running.{counted_steps, finished_depth}
@@ -32,7 +32,14 @@ passes b r x e = ap (λ t. unless t r x) e
 pub stops : {A : Type 0} (b : Bool) (r : Refusal) (x : Answer A) → b ≡ true → unless b r x ≡ refused r
 stops b r x e = ap (λ t. unless t r x) e
 
+-- a cell that is open, at a phase
+pub open_at : (c : Option Open) (o : Open) (p : Phase) → c ≡ Some o → o.phase ≡ p → c ≡ Some (record { extent = o.extent; phase = p })
+open_at c o p x y = x ∙ ap (λ q. Some (record { extent = o.extent; phase = q })) y
+
 module _ (K : Kind) {X : Type 0} (m : X → K.Level) (C : Criterion) (s : Setting) (e : Extent) where
+  abbrev At : Phase → Option Open
+  At p = Some (record { extent = e; phase = p })
+
   same_size : Opened K m C s e → size_of e ≡ size s
   same_size o = λ i. record { width = o.width i; height = o.height i }
 
@@ -41,78 +48,25 @@ module _ (K : Kind) {X : Type 0} (m : X → K.Level) (C : Criterion) (s : Settin
 
   module _ (block : List X) (h : History K.Level) where
     -- a refused call leaves what stood
-    pub refused_keeps : (p : Phase) (c : Call K.Level) (r : Refusal) → defined K C s h c ≡ refused r → Behind K m C s e p block h → Behind K m C s e p block (event c (refused r) ∷ h)
-    refused_keeps p c r q b = record { can = (b.can, sym q); room = b.room; stands = b.stands }
+    refused_keeps : (o : Option Open) (c : Call K.Level) (r : Refusal) → defined K C s h c ≡ refused r → Behind K m C s o block h → Behind K m C s o block (event c (refused r) ∷ h)
+    refused_keeps o c r q b = record { can = (b.can, sym q); room = b.room; stands = b.stands }
 
-    pub in_phase : (p q : Phase) → p ≡ q → Behind K m C s e p block h → Behind K m C s e q block h
-    in_phase p q x b = subst (λ (y : Phase). Behind K m C s e y block h) x b
-
-    -- the block houses the recipe, which is for these levels
-    pub never_cramped : (r : Run) → length block < (r.plan.sheet.planes + 2) * places (size_of e) → Behind K m C s e (Running r) block h → ⊥
-    never_cramped r small b = omega (arith, b.stands.fits.houses)
-
-    pub never_unranked : (r : Run) → r.plan.ranked ≡ true → K.ranked ≡ false → Behind K m C s e (Running r) block h → ⊥
-    never_unranked r a n b = let z : ◌≡◌ {A = ℕ} 0 1 = cc b.stands.fits.levels in omega arith
-
-    pub never_short : (p : Plan) → length block < places (size_of e) → Behind K m C s e (Ready p) block h → ⊥
-    never_short p small b =
-        let n = places (size_of e) in
-        let grows : 2 * n ≤ (2 + p.sheet.planes) * n = mul-le-mul_right n (omega arith) in
-        omega (arith, b.stands.fits.houses)
-
-    -- a cell without a run
-    idle : (p : Phase) → (p ≡ Shut → ⊥) → ((r : Run) → p ≡ Running r → ⊥) → Behind K m C s e p block h → Opened K m C s e × (is_open h ≡ false)
-    idle Shut a n b = absurd (a refl)
-    idle Bare a n b = (b.stands.opened, b.stands.closed)
-    idle (Ready p) a n b = (b.stands.fits.opened, b.stands.closed)
-    idle (Running r) a n b = absurd (n r refl)
-
-    -- Admit.
-    module _ (p : Phase) (a : p ≡ Shut → ⊥) (n : (r : Run) → p ≡ Running r → ⊥) (bytes : List ℕ) where
-      asks : Behind K m C s e p block h → (x : Answer Sheet) → x ≡ checked K.ranked bytes → defined K C s h (Admit bytes) ≡ next x (housed s)
-      asks b x q =
-          let i = idle p a n b in
-          passes _ _ _ (not_from_true (works s) i.0.open_cell) ∙ (passes _ _ _ i.1 ∙ ap (λ y. next y (housed s)) (sym q))
-
-      pub recipe_refused : (r : Refusal) → refused r ≡ checked K.ranked bytes → Behind K m C s e p block h → Behind K m C s e p block (event (Admit bytes) (refused r) ∷ h)
-      recipe_refused r q b = refused_keeps p (Admit bytes) r (asks b (refused r) q) b
-
-      module _ (plan : Plan) (q : given plan.sheet ≡ checked K.ranked bytes) where
-        pub too_small : length block < (plan.sheet.planes + 2) * places (size_of e) → Behind K m C s e p block h → Behind K m C s e p block (event (Admit bytes) (refused (of_cell 19)) ∷ h)
-        too_small small b =
-            let i = idle p a n b in
-            let few : leb ((plan.sheet.planes + 2) * pixels s) s.room ≡ false =
-            lt-leb _ _ (subst (λ (k : ℕ). s.room < (plan.sheet.planes + 2) * k) (same_places i.0) (omega (arith, b.room))) in
-            refused_keeps p (Admit bytes) (of_cell 19) (asks b (given plan.sheet) q ∙ stops _ _ _ (not_from_false _ few)) b
-
-        pub admitted :
-            steps_in plan ≡ steps_of bytes → plan.ranked ≡ K.ranked → (plan.sheet.planes + 2) * places (size_of e) ≤ length block →
-            Behind K m C s e p block h → Behind K m C s e (Ready plan) block (event (Admit bytes) (given plan.sheet) ∷ h)
-        admitted steps ranks fits b =
-            let i = idle p a n b in
-            let enough : leb ((plan.sheet.planes + 2) * pixels s) s.room ≡ true =
-            le-leb _ _ (subst (λ (k : ℕ). (plan.sheet.planes + 2) * k ≤ s.room) (same_places i.0) (omega (arith, b.room))) in
-            record {
-              can = (b.can, sym (asks b (given plan.sheet) q ∙ passes _ _ _ (not_from_true _ enough)));
-              room = b.room;
-              stands = record {
-                fits = record { opened = i.0; admitted = sym q; steps = steps; levels = ranks; houses = omega (arith, fits) };
-                closed = i.1;
-              };
-            }
+    -- what is behind a cell is behind the same
+    pub in_state : (c d : Option Open) → c ≡ d → Behind K m C s c block h → Behind K m C s d block h
+    in_state c d x b = subst (λ y. Behind K m C s y block h) x b
 
     -- Lay.
-    has_recipe : (p : Plan) → Behind K m C s e (Ready p) block h → eqb (length (installed h)) 0 ≡ false
+    has_recipe : (p : Plan) → Behind K m C s (At (Ready p)) block h → eqb (length (installed h)) 0 ≡ false
     has_recipe p b = ne_eqb _ _ (λ z. none (installed h) z (ap length b.stands.fits.steps))
       where
         none : (bytes : List ℕ) → length bytes ≡ 0 → length (steps_in p) ≡ length (steps_of bytes) → ⊥
         none [] z q = omega (arith, counted_steps p)
         none (x ∷ xs) z q = omega arith
 
-    pub misfit : (p : Plan) (f : List K.Level) → (length f ≡ places (size_of e) → ⊥) → Behind K m C s e (Ready p) block h → Behind K m C s e (Ready p) block (event (Lay f) (refused (of_cell 20)) ∷ h)
+    pub misfit : (p : Plan) (f : List K.Level) → (length f ≡ places (size_of e) → ⊥) → Behind K m C s (At (Ready p)) block h → Behind K m C s (At (Ready p)) block (event (Lay f) (refused (of_cell 20)) ∷ h)
     misfit p f bad b =
         let w = b.stands in
-        refused_keeps (Ready p) (Lay f) (of_cell 20)
+        refused_keeps (At (Ready p)) (Lay f) (of_cell 20)
         (passes _ _ _ (not_from_true (works s) w.fits.opened.open_cell)
         ∙ (passes _ _ _ (has_recipe p b)
         ∙ (passes _ _ _ w.closed
@@ -121,8 +75,8 @@ module _ (K : Kind) {X : Type 0} (m : X → K.Level) (C : Criterion) (s : Settin
 
     pub laid_in :
         (p : Plan) (r : Run) (frame after : List X) → length frame ≡ places (size_of e) → r.plan ≡ p → r.done ≡ 0 → r.depth ≡ 0 →
-        Put frame block after → Behind K m C s e (Ready p) block h →
-        Behind K m C s e (Running r) after (event (Lay (map m frame)) (given tt) ∷ h)
+        Put frame block after → Behind K m C s (At (Ready p)) block h →
+        Behind K m C s (At (Running r)) after (event (Lay (map m frame)) (given tt) ∷ h)
     laid_in p r frame after fits same none flat put b =
         let w = b.stands in
         let o = w.fits.opened in
@@ -160,15 +114,15 @@ module _ (K : Kind) {X : Type 0} (m : X → K.Level) (C : Criterion) (s : Settin
         }
 
     -- Step.
-    records_left : (r : Run) → Behind K m C s e (Running r) block h → left h ≡ r.plan.count - r.done
+    records_left : (r : Run) → Behind K m C s (At (Running r)) block h → left h ≡ r.plan.count - r.done
     records_left r b =
         let w = b.stands in
         ap (λ (x : List Step). length x - done h) (sym w.fits.steps) ∙ omega (arith, counted_steps r.plan, w.records)
 
     pub stepped :
         (r r' : Run) (after : List X) (count now rest : ℕ) → now ≡ min count rest → rest ≡ r.plan.count - r.done →
-        Worked K m C (size_of e) now r r' block after → Behind K m C s e (Running r) block h →
-        Behind K m C s e (Running r') after (event (Steps count) (given (now, rest - now)) ∷ h)
+        Worked K m C (size_of e) now r r' block after → Behind K m C s (At (Running r)) block h →
+        Behind K m C s (At (Running r')) after (event (Steps count) (given (now, rest - now)) ∷ h)
     stepped r r' after count now rest q l work b =
         let w = b.stands in
         let o = w.fits.opened in
@@ -196,31 +150,12 @@ module _ (K : Kind) {X : Type 0} (m : X → K.Level) (C : Criterion) (s : Settin
         }
 
     -- Take.
-    pub left_refused : (r : Run) (n : ℕ) → r.done < r.plan.count → Behind K m C s e (Running r) block h → Behind K m C s e (Running r) block (event (Take n) (refused (of_cell 5)) ∷ h)
-    left_refused r n less b =
-        let w = b.stands in
-        let some : eqb (left h) 0 ≡ false = ne_eqb _ _ (λ z. omega (arith, records_left r b)) in
-        refused_keeps (Running r) (Take n) (of_cell 5)
-        (passes _ _ _ (not_from_true (works s) w.fits.opened.open_cell)
-        ∙ (passes _ _ _ (not_from_true (is_open h) w.opened) ∙ stops _ _ _ (not_from_false _ some)))
-        b
-
-    none_left : (r : Run) → r.plan.count ≤ r.done → Behind K m C s e (Running r) block h → eqb (left h) 0 ≡ true
+    none_left : (r : Run) → r.plan.count ≤ r.done → Behind K m C s (At (Running r)) block h → eqb (left h) 0 ≡ true
     none_left r all b = eq-eqb _ _ (records_left r b ∙ omega arith)
-
-    pub misfit_out : (r : Run) (n : ℕ) → r.plan.count ≤ r.done → (n ≡ places (size_of e) → ⊥) → Behind K m C s e (Running r) block h → Behind K m C s e (Running r) block (event (Take n) (refused (of_cell 20)) ∷ h)
-    misfit_out r n all bad b =
-        let w = b.stands in
-        refused_keeps (Running r) (Take n) (of_cell 20)
-        (passes _ _ _ (not_from_true (works s) w.fits.opened.open_cell)
-        ∙ (passes _ _ _ (not_from_true (is_open h) w.opened)
-        ∙ (passes _ _ _ (not_from_true _ (none_left r all b))
-        ∙ stops _ _ _ (not_from_false (eqb n (pixels s)) (ne_eqb _ _ (λ z. bad (z ∙ sym (same_places w.fits.opened))))))))
-        b
 
     pub taken :
         (r : Run) (out : List X) → length out ≡ places (size_of e) → r.plan.count ≤ r.done → Got (r.depth * places (size_of e)) block out →
-        Behind K m C s e (Running r) block h → Behind K m C s e (Ready r.plan) block (event (Take (length out)) (given (map m out)) ∷ h)
+        Behind K m C s (At (Running r)) block h → Behind K m C s (At (Ready r.plan)) block (event (Take (length out)) (given (map m out)) ∷ h)
     taken r out fits all got b =
         let w = b.stands in
         let o = w.fits.opened in
@@ -240,15 +175,7 @@ module _ (K : Kind) {X : Type 0} (m : X → K.Level) (C : Criterion) (s : Settin
     -- the same, where the length of the output and the number of places go by other names
     pub taken_by :
         (r : Run) (out : List X) (n places' : ℕ) → length out ≡ n → places' ≡ places (size_of e) → n ≡ places' → r.plan.count ≤ r.done → Got (r.depth * places') block out →
-        Behind K m C s e (Running r) block h → Behind K m C s e (Ready r.plan) block (event (Take n) (given (map m out)) ∷ h)
+        Behind K m C s (At (Running r)) block h → Behind K m C s (At (Ready r.plan)) block (event (Take n) (given (map m out)) ∷ h)
     taken_by r out n places' long many fits all got b =
-        subst (λ (k : ℕ). Behind K m C s e (Ready r.plan) block (event (Take k) (given (map m out)) ∷ h)) long
+        subst (λ (k : ℕ). Behind K m C s (At (Ready r.plan)) block (event (Take k) (given (map m out)) ∷ h)) long
         (taken r out (long ∙ (fits ∙ many)) all (subst (λ (k : ℕ). Got (r.depth * k) block out) many got) b)
-
-    -- Clear.
-    pub cleared : (r : Run) → Behind K m C s e (Running r) block h → Behind K m C s e (Ready r.plan) block (event Clear (given tt) ∷ h)
-    cleared r b =
-        let w = b.stands in
-        let answer : defined K C s h Clear ≡ given tt =
-        passes _ _ _ (not_from_true (works s) w.fits.opened.open_cell) ∙ passes _ _ _ (not_from_true (is_open h) w.opened) in
-        record { can = (b.can, sym answer); room = b.room; stands = record { fits = w.fits; closed = refl } }

@@ -1,7 +1,7 @@
-pub mod Moving
 pub mod Running
 pub mod Working
 pub mod Rastered
+pub mod Moving
 pub mod Behinds
 pub mod Pictured
 pub mod Sound

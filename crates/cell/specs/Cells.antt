@@ -1,5 +1,5 @@
 -- A cell that has a history behind it.
-use Rattle.std.specs.Prelude.{◌≡◌, ℕ, ◌+◌, ◌≤◌, true, false, List, [], ◌∷◌, length, Ok, Err, Result}
+use Rattle.std.specs.Prelude.{◌≡◌, ℕ, ◌+◌, ◌≤◌, true, false, List, [], ◌∷◌, length, Some, None, Option, Ok, Err, Result}
 use Rattle.level.specs.Kind.{Kind}
 use Rattle.rule.specs.Criterion.{Criterion}
 use Rattle.recipe.specs.declared.entry.Sheet.{Sheet}
@@ -11,7 +11,8 @@ use Rattle.steps.specs.Stacks.{plane_at}
 use Rattle.cell.specs.declared.fault.CellFault.{CellFault}
 use Rattle.cell.specs.declared.run.Run.{Run}
 use Rattle.cell.specs.declared.calls.Phase.{Phase}
-use Rattle.cell.specs.declared.calls.Phase.TheVariants.{Shut, Bare, Ready, Running}
+use Rattle.cell.specs.declared.calls.Phase.TheVariants.{Bare, Ready, Running}
+use Rattle.cell.specs.declared.calls.Open.{Open}
 use Rattle.cell.specs.declared.calls.Slip.{Slip}
 use Rattle.cell.specs.declared.calls.Stepped.{Stepped}
 use Rattle.cell.specs.declared.calls.Cell.{Cell}
@@ -54,20 +55,24 @@ module _ (K : Kind) {X : Type 0} (m : X → K.Level) (C : Criterion) (s : Settin
     pub closed : t.running ≡ false
 
   abbrev pub InPhase : Phase → List X → State K.Level → Type 0
-  InPhase Shut block t = works s ≡ false
   InPhase Bare block t = Empty block t
   InPhase (Ready p) block t = Waits p block t
   InPhase (Running r) block t = Runs r block t
 
-  -- this history can happen, and phase and block are as it left them
-  pub record Behind (phase : Phase) (block : List X) (h : History K.Level) : Type 0 where
-    pub can : CanHappen K C s h
-    pub room : s.room ≡ length block
-    pub stands : InPhase phase block (state h)
+-- what stands of an open cell, and that a shut one never opens
+abbrev pub InState : (K : Kind) {X : Type 0} → (X → K.Level) → Criterion → Setting → Option Open → List X → State K.Level → Type 0
+InState K m C s None block t = works s ≡ false
+InState K m C s (Some o) block t = InPhase K m C s o.extent o.phase block t
+
+-- this history can happen, and state and block are as it left them
+pub record Behind (K : Kind) {X : Type 0} (m : X → K.Level) (C : Criterion) (s : Setting) (cell : Option Open) (block : List X) (h : History K.Level) : Type 0 where
+  pub can : CanHappen K C s h
+  pub room : s.room ≡ length block
+  pub stands : InState K m C s cell block (state h)
 
 -- the cell has this history behind it; m gives a pixel's meaning
 abbrev pub Stands : (K : Kind) {S P R : Type 0} → (P → K.Level) → Criterion → Cell S P R → Setting → History K.Level → Type 0
-Stands K m C cell s h = Behind K m C s cell.extent cell.phase cell.block.now h
+Stands K m C cell s h = Behind K m C s cell.open cell.block.now h
 
 -- the call has come about with this answer: whatever history was behind the cell, it now is longer by this event
 abbrev pub Happens : (K : Kind) {S P R : Type 0} → (P → K.Level) → Criterion → Cell S P R → Cell S P R → (c : Call K.Level) → Answer (Good c) → Type 0
@@ -116,10 +121,13 @@ LayLeaves (Err e) frame before after = after ≡ before
 
 -- what a step leaves of the block: in a run, all but the stack's planes and the scratch plane
 abbrev pub PhaseLeaves : {P : Type 0} → Phase → Extent → List P → List P → Type 0
-PhaseLeaves Shut e before after = after ≡ before
 PhaseLeaves Bare e before after = after ≡ before
 PhaseLeaves (Ready p) e before after = after ≡ before
 PhaseLeaves (Running r) e before after = Leaves (size_of e) r.plan.sheet.planes before after
 
+abbrev pub OpenLeaves : {P : Type 0} → Option Open → List P → List P → Type 0
+OpenLeaves None before after = after ≡ before
+OpenLeaves (Some o) before after = PhaseLeaves o.phase o.extent before after
+
 abbrev pub StepLeaves : {S P R : Type 0} → Cell S P R → List P → Type 0
-StepLeaves cell after = PhaseLeaves cell.phase cell.extent cell.block.now after
+StepLeaves cell after = OpenLeaves cell.open cell.block.now after

@@ -1,12 +1,9 @@
 // The cell and its calls.
-ghost use Rattle.std.specs.Prelude.{◌≡◌, ◌+◌, ◌*◌, ◌<◌, ◌≤◌, true, [], map, length, Ok, Err, slice_index_or};
+ghost use Rattle.std.specs.Prelude.{◌≡◌, ◌+◌, ◌*◌, ◌<◌, ◌≤◌, true, [], map, length, Ok, Err};
 ghost use Rattle.cell.specs.Cells.{Happens, LayLeaves, RefusalKeeps, SlipBack, SlipDue, Stands, StepLeaves, admit_answer, clear_answer, lay_answer, step_answer, take_answer};
 ghost use Rattle.cell.specs.Histories.{Admit, Clear, Lay, Steps, Take, setting};
 ghost use Rattle.cell.specs.Rasters.{Got, Put};
 ghost use Rattle.cell.specs.Shows.{Housed, Worked};
-ghost use Rattle.recipe.specs.Depths.{deeper};
-ghost use Rattle.recipe.specs.Steps.{form, wants};
-ghost use Rattle.recipe.specs.declared.step.Step.TheVariants.{Frame};
 ghost use Rattle.steps.specs.Planes.{size_of};
 
 use crate::fault::CellFault;
@@ -15,7 +12,6 @@ use crate::setup::Setup;
 use level::Level;
 use recipe::entry::Sheet;
 use recipe::plan::Plan;
-use recipe::step::Step;
 use rule::Rule;
 use steps::apply::apply_step;
 use steps::extent::Extent;
@@ -40,21 +36,25 @@ pub struct Stepped {
     pub left: usize,
 }
 
-// Where a cell stands: shut for good, without a recipe, with one, or in a run.
+// Where an open cell stands: without a recipe, with one, or in a run.
 #[derive(Clone, Copy)]
 pub enum Phase {
-    Shut,
     Bare,
     Ready(Plan),
     Running(Run),
 }
 
-// A cell over a lent block: the frame's plane, the recipe's stack planes, the scratch plane. A shut cell's extent is
-// the smallest one and stands for nothing.
+// What a cell that is not shut has: the size of its frames, and where it stands.
+#[derive(Clone, Copy)]
+pub struct Open {
+    pub extent: Extent,
+    pub phase: Phase,
+}
+
+// A cell over a lent block: the frame's plane, the recipe's stack planes, the scratch plane. It is open, or shut for good.
 #[derive(Drop)]
 pub struct Cell<'a, S: Setup> {
-    extent: Extent,
-    phase: Phase,
+    open: Option<Open>,
     block: &'a mut [S::Pixel],
 }
 
@@ -65,29 +65,14 @@ impl<'a, S: Setup> Cell<'a, S> {
         ensures same { result.block.ghost_name ≡ block.entry.ghost_name }
         ensures block { result.block.now ≡ block.old }
     {
-        let none = Extent {
-            width: 1,
-            height: 1,
+        let open = match Extent::new(width, height) {
+            Some(extent) if block.len() >= 3 * extent.places() => Some(Open {
+                extent,
+                phase: Phase::Bare,
+            }),
+            _ => None,
         };
-        match Extent::new(width, height) {
-            None => Cell {
-                extent: none,
-                phase: Phase::Shut,
-                block,
-            },
-            Some(extent) => {
-                let phase = if block.len() < 3 * extent.places() {
-                    Phase::Shut
-                } else {
-                    Phase::Bare
-                };
-                Cell {
-                    extent,
-                    phase,
-                    block,
-                }
-            }
-        }
+        Cell { open, block }
     }
 
     // Installs a recipe in place of the last, and answers its sheet.
@@ -97,18 +82,21 @@ impl<'a, S: Setup> Cell<'a, S> {
         ensures block { self.new.block.now ≡ self.old.block.now }
         ensures refused { RefusalKeeps result self.old self.new }
     {
-        match self.phase {
-            Phase::Shut => Err(CellFault::Shut),
-            Phase::Running(_) => Err(CellFault::RunOpen),
-            _ => {
-                let plan = Plan::check(bytes, S::Pixel::ranked())?;
-                if self.block.len() < (plan.sheet.planes + 2) * self.extent.places() {
-                    return Err(CellFault::SmallBlock);
-                }
-                self.phase = Phase::Ready(plan);
-                Ok(plan.sheet)
-            }
+        let Some(open) = self.open else {
+            return Err(CellFault::Shut);
+        };
+        if let Phase::Running(_) = open.phase {
+            return Err(CellFault::RunOpen);
         }
+        let plan = Plan::check(bytes, S::Pixel::ranked())?;
+        if self.block.len() < (plan.sheet.planes + 2) * open.extent.places() {
+            return Err(CellFault::SmallBlock);
+        }
+        self.open = Some(Open {
+            phase: Phase::Ready(plan),
+            ..open
+        });
+        Ok(plan.sheet)
     }
 
     // Copies a frame in, and opens a run.
@@ -119,20 +107,25 @@ impl<'a, S: Setup> Cell<'a, S> {
         ensures refused { RefusalKeeps result self.old self.new }
         ensures slip { SlipDue result }
     {
-        match self.phase {
-            Phase::Shut => Err(CellFault::Shut),
+        let Some(open) = self.open else {
+            return Err(CellFault::Shut);
+        };
+        match open.phase {
             Phase::Bare => Err(CellFault::NoRecipe),
             Phase::Running(_) => Err(CellFault::RunOpen),
             Phase::Ready(plan) => {
-                if frame.len() != self.extent.places() {
+                if frame.len() != open.extent.places() {
                     return Err(CellFault::WrongLength);
                 }
-                // No history leads here: the block of a cell that is not shut is longer.
+                // No history leads here: the block of an open cell is longer.
                 if self.block.len() < frame.len() {
                     return Err(CellFault::Shut);
                 }
                 put(self.block, frame);
-                self.phase = Phase::Running(Run::start(plan));
+                self.open = Some(Open {
+                    phase: Phase::Running(Run::start(plan)),
+                    ..open
+                });
                 Ok(Slip { spent: false })
             }
         }
@@ -145,27 +138,30 @@ impl<'a, S: Setup> Cell<'a, S> {
         ensures block { StepLeaves self.old self.new.block.now }
         ensures refused { RefusalKeeps result self.old self.new }
     {
-        match self.phase {
-            Phase::Shut => Err(CellFault::Shut),
-            Phase::Running(run) => {
-                let extent = self.extent;
-                // No history leads here: the recipe that runs was admitted for this block and these levels.
-                if (self.block.len() < (run.plan.sheet.planes + 2) * extent.places())
-                    | (run.plan.ranked & !S::Pixel::ranked())
-                {
-                    return Err(CellFault::Shut);
-                }
-                let left = run.plan.count - run.done;
-                let done = count.min(left);
-                let after = work::<S::Pixel, S::Selector>(self.block, extent, run, done);
-                self.phase = Phase::Running(after);
-                Ok(Stepped {
-                    done,
-                    left: left - done,
-                })
-            }
-            _ => Err(CellFault::NoRun),
+        let Some(open) = self.open else {
+            return Err(CellFault::Shut);
+        };
+        let Phase::Running(run) = open.phase else {
+            return Err(CellFault::NoRun);
+        };
+        let extent = open.extent;
+        // No history leads here: the recipe that runs was admitted for this block and these levels.
+        if (self.block.len() < (run.plan.sheet.planes + 2) * extent.places())
+            | (run.plan.ranked & !S::Pixel::ranked())
+        {
+            return Err(CellFault::Shut);
         }
+        let left = run.plan.count - run.done;
+        let done = count.min(left);
+        let after = work::<S::Pixel, S::Selector>(self.block, extent, run, done);
+        self.open = Some(Open {
+            phase: Phase::Running(after),
+            ..open
+        });
+        Ok(Stepped {
+            done,
+            left: left - done,
+        })
     }
 
     // Copies levels of the block out.
@@ -173,7 +169,7 @@ impl<'a, S: Setup> Cell<'a, S> {
         requires { at + length out.old ≤ length self.now.block.now }
         ensures { Got at self.now.block.now out.new }
     {
-        get(self.block, at, out);
+        out.copy_from_slice(&self.block[at..at + out.len()]);
     }
 
     // Copies the finished plane to the output, and ends the run.
@@ -184,27 +180,30 @@ impl<'a, S: Setup> Cell<'a, S> {
         ensures refused { SlipBack result slip self.old self.new }
         ensures output { elim result [ Ok u ↦ Unit {0} | Err e ↦ out.new ≡ out.old ] }
     {
-        match self.phase {
-            Phase::Shut => Err((CellFault::Shut, slip)),
-            Phase::Running(run) => {
-                let places = self.extent.places();
-                if run.done < run.plan.count {
-                    return Err((CellFault::RecordsLeft, slip));
-                }
-                if out.len() != places {
-                    return Err((CellFault::WrongLength, slip));
-                }
-                // No history leads here: the recipe that runs was admitted for this block.
-                if self.block.len() < (run.plan.sheet.planes + 2) * places {
-                    return Err((CellFault::Shut, slip));
-                }
-                self.read(run.depth * places, out);
-                slip.spent = true;
-                self.phase = Phase::Ready(run.plan);
-                Ok(())
-            }
-            _ => Err((CellFault::NoRun, slip)),
+        let Some(open) = self.open else {
+            return Err((CellFault::Shut, slip));
+        };
+        let Phase::Running(run) = open.phase else {
+            return Err((CellFault::NoRun, slip));
+        };
+        let places = open.extent.places();
+        if run.done < run.plan.count {
+            return Err((CellFault::RecordsLeft, slip));
         }
+        if out.len() != places {
+            return Err((CellFault::WrongLength, slip));
+        }
+        // No history leads here: the recipe that runs was admitted for this block.
+        if self.block.len() < (run.plan.sheet.planes + 2) * places {
+            return Err((CellFault::Shut, slip));
+        }
+        self.read(run.depth * places, out);
+        slip.spent = true;
+        self.open = Some(Open {
+            phase: Phase::Ready(run.plan),
+            ..open
+        });
+        Ok(())
     }
 
     // Ends the run.
@@ -214,65 +213,18 @@ impl<'a, S: Setup> Cell<'a, S> {
         ensures block { self.new.block.now ≡ self.old.block.now }
         ensures refused { SlipBack result slip self.old self.new }
     {
-        match self.phase {
-            Phase::Shut => Err((CellFault::Shut, slip)),
-            Phase::Running(open) => {
-                slip.spent = true;
-                self.phase = Phase::Ready(open.plan);
-                Ok(())
-            }
-            _ => Err((CellFault::NoRun, slip)),
-        }
-    }
-}
-
-// The depth of a stack after a step.
-fn deepened(step: Step, depth: usize) -> usize
-    requires { depth ≤ 4 }
-    ensures { result ≡ deeper (form step) depth }
-{
-    match step {
-        Step::Frame => depth + 1,
-        Step::Meet | Step::Join | Step::MeanLow | Step::MeanHigh => depth.saturating_sub(1),
-        _ => depth,
-    }
-}
-
-impl Run {
-    // The run of a plan with no record done.
-    fn start(plan: Plan) -> Run
-        ensures plan { result.plan ≡ plan }
-        ensures done { result.done ≡ 0 }
-        ensures depth { result.depth ≡ 0 }
-    {
-        Run {
-            plan,
-            done: 0,
-            depth: 0,
-        }
-    }
-
-    // The next record's step.
-    fn step(self) -> Step
-        requires { self.done < self.plan.count }
-        ensures { result ≡ slice_index_or self.plan.steps self.done Frame }
-    {
-        self.plan.steps[self.done]
-    }
-
-    // The run when the next record is done too.
-    fn advanced(self) -> Run
-        requires { self.done < self.plan.count }
-        ensures plan { result.plan ≡ self.plan }
-        ensures done { result.done ≡ self.done + 1 }
-        ensures depth { result.depth ≡ deeper (form (slice_index_or self.plan.steps self.done Frame)) self.depth }
-    {
-        let depth = deepened(self.step(), self.depth);
-        Run {
-            plan: self.plan,
-            done: self.done + 1,
-            depth,
-        }
+        let Some(open) = self.open else {
+            return Err((CellFault::Shut, slip));
+        };
+        let Phase::Running(ended) = open.phase else {
+            return Err((CellFault::NoRun, slip));
+        };
+        slip.spent = true;
+        self.open = Some(Open {
+            phase: Phase::Ready(ended.plan),
+            ..open
+        });
+        Ok(())
     }
 }
 
@@ -281,19 +233,7 @@ fn put<L: Level>(block: &mut [L], frame: &[L])
     requires { length frame.now ≤ length block.old }
     ensures { Put frame.now block.old block.new }
 {
-    for i in 0..frame.len() {
-        block[i] = frame[i];
-    }
-}
-
-// Copies levels of the block out.
-fn get<L: Level>(block: &[L], at: usize, out: &mut [L])
-    requires { at + length out.old ≤ length block.now }
-    ensures { Got at block.now out.new }
-{
-    for i in 0..out.len() {
-        out[i] = block[at + i];
-    }
+    block[..frame.len()].copy_from_slice(frame);
 }
 
 // Does the next record.

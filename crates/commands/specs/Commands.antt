@@ -96,7 +96,7 @@ asked (Note text) = note text.now
 asked (Cell making) = cell making
 asked (PutCall call) = put (put_by call)
 
-abbrev pub asked_by : Result Command Unread → Result Asked Unread
+abbrev pub asked_by : {E : Type 0} → Result Command E → Result Asked E
 asked_by (Ok command) = Ok (asked command)
 asked_by (Err e) = Err e
 

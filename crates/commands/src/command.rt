@@ -1,10 +1,13 @@
 // The calls of a script.
 ghost use Rattle.std.specs.Prelude.{◌≡◌, Some};
-ghost use Rattle.commands.specs.declared.command.Unread.TheVariants.{NoSuchCall, NoSuchKind, NoSuchRule};
+ghost use Rattle.commands.specs.declared.command.Unread.TheVariants.{NoSuchCall, NoSuchKind, NoSuchRule, NotANumber};
 ghost use Rattle.commands.specs.Commands.{Asks, AsksCall, AsksCell, AsksNamed, Counts, Names, asked_by, name_of_call, kind_name, rule_name, unread_text};
 
 use spelling::words;
+use std::error::Error;
 use std::fmt;
+use std::num::ParseIntError;
+use std::str::FromStr;
 
 // A call that a script can name.
 #[derive(Clone, Copy)]
@@ -64,7 +67,7 @@ pub enum Command<'a> {
 }
 
 // Why a line cannot be read.
-#[derive(Clone, Copy)]
+#[derive(Clone, Copy, Debug, PartialEq, Eq)]
 pub enum Unread {
     NoSuchCall,
     NoSuchKind,
@@ -73,43 +76,63 @@ pub enum Unread {
     WordTooMany,
 }
 
-// The call of that name.
-pub fn call_name(word: &str) -> Result<CallName, Unread>
-    ensures { Names name_of_call NoSuchCall word.now result }
-{
-    match word {
-        "cell" => Ok(CallName::Cell),
-        "admit" => Ok(CallName::Admit),
-        "lay" => Ok(CallName::Lay),
-        "step" => Ok(CallName::Step),
-        "take" => Ok(CallName::Take),
-        "clear" => Ok(CallName::Clear),
-        _ => Err(Unread::NoSuchCall),
+// A call by its name.
+impl FromStr for CallName {
+    type Err = Unread;
+
+    ghost from_str_gives = { Names name_of_call NoSuchCall };
+
+    fn from_str(word: &str) -> Result<CallName, Unread> {
+        match word {
+            "cell" => Ok(CallName::Cell),
+            "admit" => Ok(CallName::Admit),
+            "lay" => Ok(CallName::Lay),
+            "step" => Ok(CallName::Step),
+            "take" => Ok(CallName::Take),
+            "clear" => Ok(CallName::Clear),
+            _ => Err(Unread::NoSuchCall),
+        }
     }
 }
 
-// The kind of that name.
-pub fn kind(word: &str) -> Result<KindName, Unread>
-    ensures { Names kind_name NoSuchKind word.now result }
-{
-    match word {
-        "grey" => Ok(KindName::Grey),
-        "height" => Ok(KindName::Height),
-        "mask" => Ok(KindName::Mask),
-        "labels" => Ok(KindName::Labels),
-        "grey/labels" => Ok(KindName::GreyLabels),
-        _ => Err(Unread::NoSuchKind),
+// A kind of level by its name.
+impl FromStr for KindName {
+    type Err = Unread;
+
+    ghost from_str_gives = { Names kind_name NoSuchKind };
+
+    fn from_str(word: &str) -> Result<KindName, Unread> {
+        match word {
+            "grey" => Ok(KindName::Grey),
+            "height" => Ok(KindName::Height),
+            "mask" => Ok(KindName::Mask),
+            "labels" => Ok(KindName::Labels),
+            "grey/labels" => Ok(KindName::GreyLabels),
+            _ => Err(Unread::NoSuchKind),
+        }
     }
 }
 
-// The rule of that name.
-pub fn rule(word: &str) -> Result<RuleName, Unread>
-    ensures { Names rule_name NoSuchRule word.now result }
-{
-    match word {
-        "variance" => Ok(RuleName::Variance),
-        "range" => Ok(RuleName::Range),
-        _ => Err(Unread::NoSuchRule),
+// A selecting rule by its name.
+impl FromStr for RuleName {
+    type Err = Unread;
+
+    ghost from_str_gives = { Names rule_name NoSuchRule };
+
+    fn from_str(word: &str) -> Result<RuleName, Unread> {
+        match word {
+            "variance" => Ok(RuleName::Variance),
+            "range" => Ok(RuleName::Range),
+            _ => Err(Unread::NoSuchRule),
+        }
+    }
+}
+
+impl From<ParseIntError> for Unread {
+    ghost from_gives = { λ _ fault. fault ≡ NotANumber };
+
+    fn from(_: ParseIntError) -> Unread {
+        Unread::NotANumber
     }
 }
 
@@ -117,23 +140,20 @@ pub fn rule(word: &str) -> Result<RuleName, Unread>
 pub fn number(word: &str) -> Result<usize, Unread>
     ensures { Counts word.now result }
 {
-    match word.parse::<usize>() {
-        Ok(n) => Ok(n),
-        Err(_) => Err(Unread::NotANumber),
-    }
+    Ok(word.parse::<usize>()?)
 }
 
 // What a `cell` line asks for after its first word.
 fn cell_asked(text: &str) -> Result<Making, Unread>
     ensures { AsksCell text.now result }
 {
-    let (kind_word, text) = words::parted(text);
-    let (rule_word, text) = words::parted(text);
+    let (kind, text) = words::parted(text);
+    let (rule, text) = words::parted(text);
     let (width, text) = words::parted(text);
     let (height, levels) = words::parted(text);
     Ok(Making {
-        kind: kind(kind_word)?,
-        rule: rule(rule_word)?,
+        kind: kind.parse()?,
+        rule: rule.parse()?,
         width: number(width)?,
         height: number(height)?,
         levels: number(levels)?,
@@ -165,7 +185,7 @@ fn named(text: &str) -> Result<Command<'_>, Unread>
     ensures { AsksNamed text.now (asked_by result) }
 {
     let (word, rest) = words::parted(text);
-    called(call_name(word)?, rest)
+    called(word.parse()?, rest)
 }
 
 // What a line asks for.
@@ -205,3 +225,5 @@ impl fmt::Display for Unread {
         write!(f, "{text}")
     }
 }
+
+impl Error for Unread {}

@@ -45,7 +45,7 @@ fn number(answer: Result<(), CellFault>) -> u32
 {
     match answer {
         Ok(()) => 0,
-        Err(fault) => fault.refusal().number as u32,
+        Err(fault) => u32::from(fault.refusal().number),
     }
 }
 

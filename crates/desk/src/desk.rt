@@ -1,5 +1,5 @@
 // A cell with the slip of its open run: calls can be put to it in any order, and no slip is lost.
-ghost use Rattle.std.specs.Prelude.{[], map, length};
+ghost use Rattle.std.specs.Prelude.{◌≡◌, [], map, length, Some, None, Ok, Err, IsOk, IfErr};
 ghost use Rattle.cell.specs.Histories.{Admit, Lay, Steps, Take, Clear, setting};
 ghost use Rattle.cell.specs.Cells.{admit_answer, step_answer};
 ghost use Rattle.desk.specs.Desks.{After, ComesAbout, Tidy, plain_answer, image_answer};
@@ -65,24 +65,14 @@ impl<'a, S: Setup> Desk<'a, S> {
         ensures { ComesAbout S.Pixel.Level.kind S.Pixel.Level.meaning S.Selector.Rule.criterion self.old self.new (Take (length out.old)) (image_answer result (map S.Pixel.Level.meaning out.new)) }
     {
         match self.slip.take() {
-            Some(slip) => match self.cell.take(slip, out) {
-                Ok(()) => Ok(()),
-                Err((fault, slip)) => {
-                    self.slip = Some(slip);
-                    Err(fault)
-                }
-            },
+            Some(slip) => {
+                let answer = self.cell.take(slip, out);
+                self.kept(answer)
+            }
             None => {
                 let mut block = [false; 3];
                 let Spare { mut cell, slip } = spare::lay(&mut block);
-                match self.cell.take(slip, out) {
-                    // No run is open.
-                    Ok(()) => unreachable(),
-                    Err((fault, slip)) => {
-                        spare::finish(&mut cell, slip);
-                        Err(fault)
-                    }
-                }
+                spare::refused(&mut cell, self.cell.take(slip, out))
             }
         }
     }
@@ -93,24 +83,30 @@ impl<'a, S: Setup> Desk<'a, S> {
         ensures { ComesAbout S.Pixel.Level.kind S.Pixel.Level.meaning S.Selector.Rule.criterion self.old self.new Clear (plain_answer result) }
     {
         match self.slip.take() {
-            Some(own) => match self.cell.clear(own) {
-                Ok(()) => Ok(()),
-                Err((fault, own)) => {
-                    self.slip = Some(own);
-                    Err(fault)
-                }
-            },
+            Some(slip) => {
+                let answer = self.cell.clear(slip);
+                self.kept(answer)
+            }
             None => {
                 let mut block = [false; 3];
                 let Spare { mut cell, slip } = spare::lay(&mut block);
-                match self.cell.clear(slip) {
-                    // No run is open.
-                    Ok(()) => unreachable(),
-                    Err((fault, slip)) => {
-                        spare::finish(&mut cell, slip);
-                        Err(fault)
-                    }
-                }
+                spare::refused(&mut cell, self.cell.clear(slip))
+            }
+        }
+    }
+
+    // Keeps the slip that a refused call hands back.
+    fn kept(&mut self, answer: Result<(), (CellFault, Slip)>) -> Result<(), CellFault>
+        requires { self.old.slip ≡ None }
+        ensures cell { self.new.cell ≡ self.old.cell }
+        ensures ok { IsOk answer → (result ≡ Ok tt) × (self.new.slip ≡ None) }
+        ensures err { IfErr answer (λ e. (result ≡ Err e.0) × (self.new.slip ≡ Some e.1)) }
+    {
+        match answer {
+            Ok(()) => Ok(()),
+            Err((fault, slip)) => {
+                self.slip = Some(slip);
+                Err(fault)
             }
         }
     }

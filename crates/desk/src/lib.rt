@@ -2,5 +2,4 @@
 #![tactic(auto)]
 
 pub mod desk;
-pub mod promises;
 pub mod spare;

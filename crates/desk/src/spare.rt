@@ -1,10 +1,11 @@
 // A second, small cell, and the end of a run.
-ghost use Rattle.std.specs.Prelude.{◌≡◌, true, false, length};
+ghost use Rattle.std.specs.Prelude.{◌≡◌, true, false, length, Err, IsErr, IfErr};
 ghost use Rattle.level.specs.Delivered.{masks, mask};
 ghost use Rattle.rule.specs.Variance.{least_variance};
 ghost use Rattle.desk.specs.Desks.{Kept};
 
 use cell::calls::{Cell, Slip};
+use cell::fault::CellFault;
 use cell::setup::{Of, Setup};
 use rule::LeastVariance;
 
@@ -42,5 +43,23 @@ pub fn finish<S: Setup>(cell: &mut Cell<S>, slip: Slip)
         Ok(()) => {}
         // A run is open.
         Err((_, _slip)) => unreachable(),
+    }
+}
+
+// What a call with the small cell's slip was refused with; the slip is spent.
+pub fn refused(
+    cell: &mut Cell<Small>,
+    answer: Result<(), (CellFault, Slip)>,
+) -> Result<(), CellFault>
+    requires open { Kept masks mask least_variance cell.old true }
+    requires refused { IsErr answer }
+    ensures { IfErr answer (λ e. result ≡ Err e.0) }
+{
+    match answer {
+        Ok(()) => unreachable(),
+        Err((fault, slip)) => {
+            finish(cell, slip);
+            Err(fault)
+        }
     }
 }

@@ -1,3 +1,4 @@
+pub mod Most
 pub mod Narrow
 pub mod Promises
 pub mod Runs

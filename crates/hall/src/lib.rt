@@ -3,6 +3,7 @@
 
 pub mod confidences;
 pub mod depths;
+pub mod most;
 pub mod narrow;
 pub mod promises;
 pub mod runs;
@@ -86,6 +87,7 @@ mod tests {
     fn readings_past_the_farthest(rt: HostRuntime) {
         let past = Depth { steps: 60000 };
         assert!(rt; same_level(past, Depth { steps: 4095 }));
+        assert!(rt; same_level(Depth { steps: 4095 }, past));
         assert_eq!(rt; past.negation().steps, 0);
     }
 }

@@ -11,14 +11,11 @@ impl Rule for NarrowThenFew {
     ghost criterion = { narrow_then_few };
 
     fn at_least_as_good(a: Window, b: Window) -> bool {
-        let (first, second) = (a.highest - a.lowest, b.highest - b.lowest);
+        let (first, second) = (a.range(), b.range());
         first < second || (first == second && a.count <= b.count)
     }
 
     fn value(w: Window) -> Ratio {
-        Ratio {
-            num: w.lowest + w.highest,
-            den: 2,
-        }
+        w.middle()
     }
 }

@@ -76,15 +76,11 @@ pub fn same_level<L: Level>(a: L, b: L) -> bool
 }
 
 /// What follows from the laws of any kind.
-pub fn laws_hold<L: Level>() -> u8
+pub fn laws_hold<L: Level>()
     ensures { Laws L.Level.kind }
-{
-    0
-}
+{}
 
 /// What follows from the laws of any ranked kind.
-pub fn rank_laws_hold<L: Level>() -> u8
+pub fn rank_laws_hold<L: Level>()
     ensures { L.Level.kind.ranked ≡ true → RankLaws L.Level.kind }
-{
-    0
-}
+{}

@@ -3,7 +3,7 @@ ghost use Rattle.std.specs.Prelude.{◌≡◌};
 ghost use Rattle.level.specs.Sides.{opposite as other};
 
 // Low: meet, erosion, opening, halves rounded down. High: join, dilation, closing, halves rounded up.
-#[derive(Clone, Copy)]
+#[derive(Clone, Copy, PartialEq, Eq)]
 pub enum Side {
     Low,
     High,

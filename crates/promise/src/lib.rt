@@ -10,52 +10,38 @@ use level::Level;
 use rule::Rule;
 
 // Erosion is a greatest lower bound, dilation is adjoint to it, and opening and closing settle.
-pub fn morphology_holds<L: Level>() -> u8
+pub fn morphology_holds<L: Level>()
     ensures { MorphologyLaw L.Level.kind }
-{
-    0
-}
+{}
 
 // Every chain of opens and closes by one element settles.
-pub fn chains_settle<L: Level>() -> u8
+pub fn chains_settle<L: Level>()
     ensures { ChainLaw L.Level.kind }
-{
-    0
-}
+{}
 
 // A selected pixel is the rounded value of every best window.
-pub fn best_is_selected<L: Level, R: Rule>() -> u8
+pub fn best_is_selected<L: Level, R: Rule>()
     ensures { SelectionLaw L.Level.kind R.Rule.criterion }
-{
-    0
-}
+{}
 
 // Every mark on the sheet of an admitted recipe is true of its image, and so on the stack after every record.
-pub fn marks_hold<L: Level, R: Rule>() -> u8
+pub fn marks_hold<L: Level, R: Rule>()
     ensures { MarksLaw L.Level.kind R.Rule.criterion }
-{
-    0
-}
+{}
 
 // A pixel of the image depends on the frame within the sheet's reach alone.
-pub fn reach_holds<L: Level, R: Rule>() -> u8
+pub fn reach_holds<L: Level, R: Rule>()
     ensures { ReachLaw L.Level.kind R.Rule.criterion }
-{
-    0
-}
+{}
 
 // The mirror of an admitted recipe makes of the negative the negative of the image.
-pub fn mirror_negates<L: Level, R: Rule>() -> u8
+pub fn mirror_negates<L: Level, R: Rule>()
     ensures recipes { MirrorLaw L.Level.kind R.Rule.criterion }
     ensures steps { MirrorStepsLaw L.Level.kind R.Rule.criterion }
-{
-    0
-}
+{}
 
 // Marks that the sheet leaves out are false: no open off the centre has W, no chain of two elements S, no dilation B,
 // no selection K, on some frame.
-pub fn limits_hold() -> u8
+pub fn limits_hold()
     ensures { Limits }
-{
-    0
-}
+{}

@@ -2,7 +2,6 @@ pub mod Gathered
 pub mod Turning
 pub mod Stacks
 pub mod Refusing
-pub mod Reading
 pub mod Checking
 pub mod Passing
 pub mod Machining

@@ -5,6 +5,7 @@ pub mod Machines
 pub mod Depths
 pub mod Sheets
 pub mod Refusals
+pub mod Kinds
 pub mod Plans
 pub mod Tables
 pub mod Answers

@@ -5,7 +5,7 @@ ghost use Rattle.recipe.specs.Planned.{sheet_answer, Planned};
 
 use crate::fault::PlanFault;
 use crate::plan::Plan;
-use crate::read::read;
+use crate::read::Record;
 use crate::step::Step;
 use crate::table::Table;
 
@@ -19,11 +19,11 @@ impl Plan {
         if (length < 8) | (length > 512) | (length % 8 != 0) {
             return Err(PlanFault::BadLength);
         }
-        let count = length / 8;
+        let (records, _) = bytes.as_chunks::<8>();
         let mut steps = [Step::Frame; 64];
         let mut table = Table::new();
-        for i in 0..count {
-            let step = read(&bytes[8 * i..8 * i + 8], i)?;
+        for (i, record) in records.iter().enumerate() {
+            let step = Record { bytes: *record }.read(i)?;
             table.place(step, ranked, i)?;
             steps[i] = step;
         }
@@ -32,7 +32,7 @@ impl Plan {
         }
         Ok(Plan {
             steps,
-            count,
+            count: records.len(),
             ranked,
             sheet: table.sheet(),
         })

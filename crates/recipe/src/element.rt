@@ -54,11 +54,9 @@ impl Element {
         ensures offsets { (b : ℕ) → b < 25 → offsets result b ≡ turning (offsets self) b }
         ensures narrow { result.bits < 2 ^ 25 }
     {
-        let mut turned: u32 = 0;
-        for b in 0..25usize {
-            turned = turned * 2 + (self.bits >> b) % 2;
+        Element {
+            bits: self.bits.reverse_bits() >> 7,
         }
-        Element { bits: turned }
     }
 }
 

@@ -1,10 +1,7 @@
 // What is known of one plane on the stack, and of a recipe's last plane.
 ghost use Rattle.std.specs.Prelude.{◌≡◌};
-ghost use Rattle.level.specs.declared.side.Side.{Side};
-ghost use Rattle.level.specs.declared.side.Side.TheVariants.{Low, High};
-ghost use Rattle.level.specs.Sides.{is_low as low};
 ghost use Rattle.recipe.specs.Steps.{negation, folding, filtering, selecting, bounding, averaging};
-ghost use Rattle.recipe.specs.Sheets.{frame_entry, after, of_two, longer as extended, settles as settled, marks_of, further as lengthened};
+ghost use Rattle.recipe.specs.Sheets.{frame_entry, after, of_two, longer as extended, settles as settled, marks_of};
 
 use crate::element::Element;
 use level::side::Side;
@@ -55,14 +52,8 @@ impl Chain {
     {
         match self {
             Chain::OfAny => Chain::Of(element),
-            Chain::Of(other) => {
-                if other == element {
-                    Chain::Of(element)
-                } else {
-                    Chain::Broken
-                }
-            }
-            Chain::Broken => Chain::Broken,
+            Chain::Of(other) if other == element => Chain::Of(element),
+            Chain::Of(_) | Chain::Broken => Chain::Broken,
         }
     }
 
@@ -70,19 +61,8 @@ impl Chain {
     fn settles(self) -> bool
         ensures { result ≡ settled self }
     {
-        match self {
-            Chain::OfAny => true,
-            Chain::Of(_) => true,
-            Chain::Broken => false,
-        }
+        !matches!(self, Chain::Broken)
     }
-}
-
-// A reach lengthened, up to the whole of any frame.
-fn further(reach: u8, more: u8) -> u8
-    ensures { result ≡ lengthened reach more }
-{
-    reach.saturating_add(more)
 }
 
 impl Entry {
@@ -122,9 +102,9 @@ impl Entry {
     {
         let centre = element.has_centre();
         Entry {
-            reach: further(self.reach, element.radius()),
-            below: is_low(side) & self.below & centre,
-            above: !is_low(side) & self.above & centre,
+            reach: self.reach.saturating_add(element.radius()),
+            below: (side == Side::Low) & self.below & centre,
+            above: (side == Side::High) & self.above & centre,
             keeps: self.keeps,
             turns: self.turns,
             within: self.within & centre,
@@ -137,9 +117,9 @@ impl Entry {
         ensures { result ≡ after (filtering side element) self }
     {
         Entry {
-            reach: further(self.reach, 2 * element.radius()),
-            below: is_low(side) & self.below,
-            above: !is_low(side) & self.above,
+            reach: self.reach.saturating_add(2 * element.radius()),
+            below: (side == Side::Low) & self.below,
+            above: (side == Side::High) & self.above,
             keeps: self.keeps,
             turns: self.turns,
             within: self.within & element.has_centre(),
@@ -151,9 +131,9 @@ impl Entry {
     pub fn selected(self, side: Side, element: Element) -> Entry
         ensures { result ≡ after (selecting side element) self }
     {
-        let twice = 2 * element.radius();
+        let reach = self.reach.saturating_add(2 * element.radius());
         Entry {
-            reach: further(self.reach, twice),
+            reach,
             below: false,
             above: false,
             keeps: false,
@@ -202,14 +182,5 @@ impl Entry {
             settles: self.chain.settles(),
             within: self.within,
         }
-    }
-}
-
-fn is_low(side: Side) -> bool
-    ensures { result ≡ low side }
-{
-    match side {
-        Side::Low => true,
-        Side::High => false,
     }
 }

@@ -5,6 +5,7 @@ mod check;
 pub mod element;
 pub mod entry;
 pub mod fault;
+pub mod kind;
 pub mod laws;
 pub mod mirror;
 mod place;

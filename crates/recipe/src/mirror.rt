@@ -3,23 +3,15 @@ ghost use Rattle.std.specs.Prelude.{◌≡◌};
 ghost use Rattle.recipe.specs.Mirrors.{opposite_kind, mirror as mirrored, Mirrored, mirror_sheet};
 
 use crate::entry::{Marks, Sheet};
+use crate::kind::Kind;
 
 // The kind of the dual step; a byte that is no kind, and a step that is its own dual, stay.
 pub fn opposite(kind: u8) -> u8
     ensures { result ≡ opposite_kind kind }
 {
-    match kind {
-        3 => 4,
-        4 => 3,
-        5 => 6,
-        6 => 5,
-        7 => 8,
-        8 => 7,
-        9 => 10,
-        10 => 9,
-        11 => 12,
-        12 => 11,
-        _ => kind,
+    match Kind::try_from(kind) {
+        Ok(kind) => u8::from(kind.mirrored()),
+        Err(_) => kind,
     }
 }
 

@@ -28,20 +28,17 @@ impl Step {
     pub fn adds_plane(self) -> bool
         ensures { result ≡ adds (form self) }
     {
-        match self {
-            Step::Frame => true,
-            _ => false,
-        }
+        matches!(self, Step::Frame)
     }
 
     // Whether the step averages or selects, and so wants ranks.
     pub fn wants_ranks(self) -> bool
         ensures { result ≡ reads_ranks (form self) }
     {
-        match self {
-            Step::MeanLow | Step::MeanHigh | Step::SelectLow(_) | Step::SelectHigh(_) => true,
-            _ => false,
-        }
+        matches!(
+            self,
+            Step::MeanLow | Step::MeanHigh | Step::SelectLow(_) | Step::SelectHigh(_)
+        )
     }
 }
 
@@ -113,15 +110,19 @@ impl Table {
         ensures { progress self.new ≡ grown step (progress self.old) }
     {
         let depth = self.depth;
-        let wanted = step.wanted();
-        if wanted == 0 {
-            self.entries[depth] = Entry::frame();
-            self.depth = depth + 1;
-        } else if wanted == 1 {
-            self.entries[depth - 1] = self.entries[depth - 1].changed(step);
-        } else {
-            self.entries[depth - 2] = self.entries[depth - 2].merged(self.entries[depth - 1], step);
-            self.depth = depth - 1;
+        match step {
+            Step::Frame => {
+                self.entries[depth] = Entry::frame();
+                self.depth = depth + 1;
+            }
+            Step::Meet | Step::Join | Step::MeanLow | Step::MeanHigh => {
+                self.entries[depth - 2] = self.entries[depth - 2].merged(
+                    self.entries[depth - 1],
+                    step,
+                );
+                self.depth = depth - 1;
+            }
+            _ => self.entries[depth - 1] = self.entries[depth - 1].changed(step),
         }
         self.planes = self.planes.max(self.depth);
     }

@@ -18,3 +18,12 @@ pub struct Plan {
     ghost low: { sheet.planes ≤ 4 },
     ghost sound: { runs ranked sheet.planes 0 (take count steps) ≡ true },
 }
+
+impl Plan {
+    // The recipe's steps in their order, without what is left of the array past them.
+    pub fn steps(&self) -> &[Step]
+        ensures { result.now ≡ take self.now.count self.now.steps }
+    {
+        &self.steps[..self.count]
+    }
+}

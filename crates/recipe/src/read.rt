@@ -1,84 +1,72 @@
 // The record reader: eight bytes to a step.
-ghost use Rattle.std.specs.Prelude.{◌≡◌, true, false, length};
-ghost use Rattle.recipe.specs.declared.element.Element.{Element};
-ghost use Rattle.recipe.specs.Plans.{has_element as elemental, element, padded, named, reads};
+ghost use Rattle.std.specs.Prelude.{◌≡◌, true, false, IfOk, IfErr};
+ghost use Rattle.recipe.specs.Elements.{is_element};
+ghost use Rattle.recipe.specs.Kinds.{number_of};
+ghost use Rattle.recipe.specs.Plans.{element as mask_of, padded, reads, kind as kind_of};
 ghost use Rattle.recipe.specs.Answers.{step_answer};
 
 use crate::element::Element;
 use crate::fault::RecordFault;
+use crate::kind::Kind;
 use crate::step::Step;
 
-// Reads the record of this index: its kind, an element where the kind has one, and zeros.
-pub fn read(bytes: &[u8], index: usize) -> Result<Step, RecordFault>
-    requires { length bytes.now ≡ 8 }
-    ensures { step_answer result ≡ reads index bytes.now }
-{
-    let kind = bytes[0];
-    if (kind < 1) | (kind > 12) {
-        return Err(RecordFault::UnknownKind(index));
-    }
-    if !is_padded(bytes) {
-        return Err(RecordFault::NotZero(index));
-    }
-    if !has_element(kind) {
-        return Ok(plain(kind));
-    }
-    match Element::new(mask(bytes)) {
-        Some(element) => Ok(looking(kind, element)),
-        None => Err(RecordFault::BadElement(index)),
-    }
+// The eight bytes of a record.
+#[derive(Clone, Copy)]
+pub struct Record {
+    pub bytes: [u8; 8],
 }
 
-// Bytes 1 to 4 as a number, the low byte first.
-fn mask(bytes: &[u8]) -> u32
-    requires { length bytes.now ≡ 8 }
-    ensures { result ≡ element bytes.now }
-{
-    u32::from_le_bytes([bytes[1], bytes[2], bytes[3], bytes[4]])
-}
-
-// Whether the bytes that are to be zero are.
-fn is_padded(bytes: &[u8]) -> bool
-    requires { length bytes.now ≡ 8 }
-    ensures { result ≡ padded bytes.now }
-{
-    (bytes[5] == 0)
-        & (bytes[6] == 0)
-        & (bytes[7] == 0)
-        & (has_element(bytes[0]) | (mask(bytes) == 0))
-}
-
-// Whether records of this kind have an element.
-fn has_element(kind: u8) -> bool
-    ensures { result ≡ elemental kind }
-{
-    kind >= 3 && kind <= 6 || kind >= 11 && kind <= 12
-}
-
-// The step of a kind that has no element.
-fn plain(kind: u8) -> Step
-    ensures { (e : Element) → elemental kind ≡ false → result ≡ named kind e }
-{
-    match kind {
-        1 => Step::Frame,
-        7 => Step::Meet,
-        8 => Step::Join,
-        9 => Step::MeanLow,
-        10 => Step::MeanHigh,
-        _ => Step::Negate,
+impl Record {
+    // Reads the record of this index: its kind, an element where the kind has one, and zeros.
+    pub fn read(self, index: usize) -> Result<Step, RecordFault>
+        ensures { step_answer result ≡ reads index self.bytes }
+    {
+        let Ok(kind) = Kind::try_from(self.bytes[0]) else {
+            return Err(RecordFault::UnknownKind(index));
+        };
+        if !self.is_padded(kind) {
+            return Err(RecordFault::NotZero(index));
+        }
+        match kind {
+            Kind::Frame => Ok(Step::Frame),
+            Kind::Negate => Ok(Step::Negate),
+            Kind::Erode => Ok(Step::Erode(self.element(index)?)),
+            Kind::Dilate => Ok(Step::Dilate(self.element(index)?)),
+            Kind::Open => Ok(Step::Open(self.element(index)?)),
+            Kind::Close => Ok(Step::Close(self.element(index)?)),
+            Kind::Meet => Ok(Step::Meet),
+            Kind::Join => Ok(Step::Join),
+            Kind::MeanLow => Ok(Step::MeanLow),
+            Kind::MeanHigh => Ok(Step::MeanHigh),
+            Kind::SelectLow => Ok(Step::SelectLow(self.element(index)?)),
+            Kind::SelectHigh => Ok(Step::SelectHigh(self.element(index)?)),
+        }
     }
-}
 
-// The step of a kind that has an element.
-fn looking(kind: u8, element: Element) -> Step
-    ensures { elemental kind ≡ true → result ≡ named kind element }
-{
-    match kind {
-        3 => Step::Erode(element),
-        4 => Step::Dilate(element),
-        5 => Step::Open(element),
-        6 => Step::Close(element),
-        11 => Step::SelectLow(element),
-        _ => Step::SelectHigh(element),
+    // Bytes 1 to 4 as a number, the low byte first.
+    fn mask(self) -> u32
+        ensures { result ≡ mask_of self.bytes }
+    {
+        let [_, a, b, c, d, _, _, _] = self.bytes;
+        u32::from_le_bytes([a, b, c, d])
+    }
+
+    // The element that the mask marks, in a record of this index.
+    fn element(self, index: usize) -> Result<Element, RecordFault>
+        ensures some { IfOk result (λ found. (is_element (mask_of self.bytes) ≡ true) × (found ≡ record { bits = mask_of self.bytes })) }
+        ensures none { IfErr result (λ fault. (is_element (mask_of self.bytes) ≡ false) × (fault ≡ RecordFault.BadElement index)) }
+    {
+        Element::new(self.mask()).ok_or(RecordFault::BadElement(index))
+    }
+
+    // Whether the bytes that are to be zero are, in a record of this kind.
+    fn is_padded(self, kind: Kind) -> bool
+        requires { number_of kind ≡ kind_of self.bytes }
+        ensures { result ≡ padded self.bytes }
+    {
+        (self.bytes[5] == 0)
+            & (self.bytes[6] == 0)
+            & (self.bytes[7] == 0)
+            & (kind.has_element() | (self.mask() == 0))
     }
 }

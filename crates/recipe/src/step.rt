@@ -1,9 +1,10 @@
 // The twelve steps of recipes.
-ghost use Rattle.std.specs.Prelude.{◌≡◌};
+ghost use Rattle.std.specs.Prelude.{◌≡◌, Some};
 ghost use Rattle.recipe.specs.Steps.{mirror_step};
 ghost use Rattle.recipe.specs.Names.{name_of};
 
 use crate::element::Element;
+use std::fmt;
 
 // One step; those that look around each place hold the element they look through.
 #[derive(Clone, Copy)]
@@ -20,6 +21,14 @@ pub enum Step {
     MeanHigh,
     SelectLow(Element),
     SelectHigh(Element),
+}
+
+impl fmt::Display for Step {
+    ghost output = { λ step. Some (name_of step) };
+
+    fn fmt<W: fmt::Write>(&self, f: &mut fmt::Formatter<W>) -> fmt::Result {
+        f.write_str(self.name())
+    }
 }
 
 impl Step {

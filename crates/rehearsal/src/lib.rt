@@ -1,16 +1,12 @@
-// Rehearsals: the calls of a script put to a cell, and its answers printed.
+// Rehearsals: a script read from standard input, and the answers to its lines printed.
 #![tactic(auto)]
 
-mod answer;
-mod desk;
-mod print;
-mod promises;
-mod session;
-mod setups;
-mod spare;
+mod printer;
 
+use crate::printer::Printer;
 use std::io;
 use std::io::{BufRead, BufReader};
+use transcripts::session;
 
 // Reads a script from standard input, one call a line, and prints the answers.
 pub fn rehearse(rt: &HostRuntime) -> io::Result<()> {
@@ -18,5 +14,5 @@ pub fn rehearse(rt: &HostRuntime) -> io::Result<()> {
     for line in BufReader::new(rt.alloc(), rt.stdin())?.split(rt.alloc(), b'\n') {
         lines.push(line?)?;
     }
-    session::run(rt, &lines)
+    session::serve(rt.alloc(), &lines, &mut Printer { rt })
 }

@@ -11,7 +11,7 @@ use Rattle.recipe.specs.Steps.{Form, start, change, merge, form, wants, reads_ra
 use Rattle.recipe.specs.Machines.{Machine, stepped, run}
 use Rattle.recipe.specs.Depths.{deeper, runs}
 use Rattle.recipe.specs.Sheets.{on_entries, top}
-use Rattle.recipe.specs.Plans.{given, Progress, nothing, grown, lacks_ranks, lacks_planes, lacks_room, placed}
+use Rattle.recipe.specs.Plans.{given, Progress, grown, lacks_ranks, lacks_planes, lacks_room, placed}
 use Rattle.recipe.specs.Tables.{progress}
 use Rattle.recipe.specs.Answers.{left_answer}
 use Rattle.recipe.proofs.Checking.{by_form_length}
@@ -81,14 +81,6 @@ pub record Walked (plan : Plan) (i : ℕ) (t : Table) (ls : List Line) : Type 0 
   pub goes_on : runs plan.ranked plan.sheet.planes (length (progress t).entries) (drop i (steps_in plan)) ≡ true
   pub written : take i ls ≡ lines_from (steps_in plan) i 0
   pub long : length ls ≡ 64
-
-pub not_begun : (plan : Plan) (t : Table) (ls : List Line) → progress t ≡ nothing → length ls ≡ 64 → Walked plan 0 t ls
-not_begun plan t ls e h = record {
-  stands = ap (λ (v : Progress). v.entries) e;
-  goes_on = subst (λ (v : Progress). runs plan.ranked plan.sheet.planes (length v.entries) (steps_in plan) ≡ true) (sym e) plan.sound;
-  written = refl;
-  long = h;
-}
 
 module _ {plan : Plan} {i : ℕ} {t : Table} {ls : List Line} (w : Walked plan i t ls)
     (less : i < length (steps_in plan)) (room : i < 64) (low : plan.sheet.planes ≤ 4)

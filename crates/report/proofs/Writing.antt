@@ -1,9 +1,9 @@
 -- Lines written one after another.
-use Rattle.std.proofs.Common.{◌≡◌, ℕ, ◌+◌, ◌<◌, ◌≤◌, List, [], ◌∷◌, ◌++◌, length, get_or, take, sym, ap, ◌∙◌, append_assoc, append-nil, arith}
+use Rattle.std.proofs.Common.{◌≡◌, ℕ, ◌+◌, ◌<◌, List, [], ◌∷◌, ◌++◌, length, get_or, take, sym, ap, ◌∙◌, append_assoc, append-nil}
 use Rattle.std.proofs.lemmas.List.{take_more}
-use Rattle.std.proofs.Output.{writes_in_calls_nil, has_written_append, has_written_of_eq}
+use Rattle.std.proofs.Output.{has_written_append, has_written_of_eq}
 use Rattle.std.specs.declared.fmt.Formatter.{Formatter}
-use Rattle.std.specs.Fmt.{IsPlainFormatter, HasWritten}
+use Rattle.std.specs.Fmt.{HasWritten}
 use Rattle.report.specs.declared.line.Line.{Line}
 use Rattle.report.specs.Texts.{line_text, lines_text}
 
@@ -13,21 +13,10 @@ lines_text_push (k ∷ ks) l =
     ap (λ (bs : List ℕ). (line_text k ++ (10 ∷ [])) ++ bs) (lines_text_push ks l)
     ∙ sym (append_assoc (line_text k ++ (10 ∷ [])) (lines_text ks) (line_text l ++ (10 ∷ [])))
 
-module _ {W : Type 0} (took : W → List ℕ → W → Type 0) where
-  pub none_put : (f : Formatter W) → IsPlainFormatter f → HasWritten took f [] f
-  none_put f plain = record { wrote = writes_in_calls_nil took f.writer; plain = plain }
-
-  pub line_put :
-      (f g h : Formatter W) (ls : List Line) (i : ℕ) (d : Line) → i < length ls →
-      HasWritten took f (lines_text (take i ls)) g → HasWritten took g (line_text (get_or ls i d) ++ (10 ∷ [])) h →
-      HasWritten took f (lines_text (take (i + 1) ls)) h
-  line_put f g h ls i d less p q =
-      let all = ap lines_text (take_more ls i d less) ∙ lines_text_push (take i ls) (get_or ls i d) in
-      has_written_of_eq took f _ _ h (sym all) (has_written_append took f _ g _ h p q)
-
-  pub last_put :
-      (f g h : Formatter W) (ls : List Line) (i n : ℕ) (bs : List ℕ) → n ≤ i → i ≤ n →
-      HasWritten took f (lines_text (take i ls)) g → HasWritten took g bs h → HasWritten took f (lines_text (take n ls) ++ bs) h
-  last_put f g h ls i n bs l k p q =
-      let all : i ≡ n = omega arith in
-      has_written_of_eq took f _ _ h (ap (λ m. lines_text (take m ls) ++ bs) all) (has_written_append took f _ g _ h p q)
+pub line_put :
+    {W : Type 0} (took : W → List ℕ → W → Type 0) (f g h : Formatter W) (ls : List Line) (i : ℕ) (d : Line) → i < length ls →
+    HasWritten took f (lines_text (take i ls)) g → HasWritten took g (line_text (get_or ls i d) ++ (10 ∷ [])) h →
+    HasWritten took f (lines_text (take (i + 1) ls)) h
+line_put took f g h ls i d less p q =
+    let all = ap lines_text (take_more ls i d less) ∙ lines_text_push (take i ls) (get_or ls i d) in
+    has_written_of_eq took f _ _ h (sym all) (has_written_append took f _ g _ h p q)

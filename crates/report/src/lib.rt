@@ -3,6 +3,5 @@
 
 pub mod letters;
 pub mod line;
-mod list;
 pub mod listing;
 pub mod verdict;

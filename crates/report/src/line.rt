@@ -42,10 +42,10 @@ impl fmt::Display for Line {
 
     fn fmt<W: fmt::Write>(&self, f: &mut fmt::Formatter<W>) -> fmt::Result {
         let number = self.number;
-        let name = self.step.name();
+        let step = self.step;
         let depth = self.depth;
         let reach = self.reach;
         let letters = Letters { marks: self.marks };
-        write!(f, "{number} {name} {depth} {reach} {letters}")
+        write!(f, "{number} {step} {depth} {reach} {letters}")
     }
 }

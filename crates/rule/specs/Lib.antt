@@ -8,3 +8,4 @@ pub mod Variance
 pub mod Range
 pub mod Choice
 pub mod Views
+pub mod Order

@@ -14,7 +14,7 @@ impl Window {
     pub fn of_rank(rank: u16) -> Window
         ensures { seen result ≡ single rank }
     {
-        let first = rank as u64;
+        let first = u64::from(rank);
         Window {
             count: 1,
             sum: first,
@@ -32,7 +32,7 @@ impl Window {
         if self.count >= MOST {
             return self;
         }
-        let next = rank as u64;
+        let next = u64::from(rank);
         Window {
             count: self.count + 1,
             sum: self.sum + next,
@@ -56,9 +56,7 @@ pub fn gathered(so_far: Option<Window>, rank: u16) -> Window
 
 // What holds of the numbers of every window: bounds, the sum's square never above count × squares, and what they
 // become when every rank r becomes t - r.
-pub fn window_laws() -> u8
+pub fn window_laws()
     ensures shaped { (rs : List ℕ) → Ranks 65535 rs → Shaped (numbers rs) }
     ensures flipped { (t : ℕ) (rs : List ℕ) → Ranks t rs → numbers (flipped t rs) ≡ flipped_numbers t (numbers rs) }
-{
-    0
-}
+{}

@@ -1,9 +1,9 @@
 // Selecting rules: which of two windows is at least as good, and what value a window has.
 #![tactic(auto)]
 
-ghost use Rattle.std.specs.Prelude.{◌≡◌, ◌*◌, ◌^◌, ◌≤◌};
+ghost use Rattle.std.specs.Prelude.{◌≡◌};
 ghost use Rattle.rule.specs.Criterion.{Criterion, Laws};
-ghost use Rattle.rule.specs.Variance.{least_variance, variation as varied};
+ghost use Rattle.rule.specs.Variance.{least_variance};
 ghost use Rattle.rule.specs.Range.{least_range};
 ghost use Rattle.rule.specs.Views.{seen, fraction};
 
@@ -29,11 +29,9 @@ pub trait Rule {
 }
 
 // The laws of a rule, at the numbers of every window that ranks can make.
-pub fn rule_laws<R: Rule>() -> u8
+pub fn rule_laws<R: Rule>()
     ensures { Laws R.Rule.criterion }
-{
-    0
-}
+{}
 
 // The smaller variance is better, and the value is the mean.
 pub struct LeastVariance;
@@ -42,14 +40,11 @@ impl Rule for LeastVariance {
     ghost criterion = { least_variance };
 
     fn at_least_as_good(a: Window, b: Window) -> bool {
-        variation(a) * (b.count * b.count) <= variation(b) * (a.count * a.count)
+        a.variation() * (b.count * b.count) <= b.variation() * (a.count * a.count)
     }
 
     fn value(w: Window) -> Ratio {
-        Ratio {
-            num: w.sum,
-            den: w.count,
-        }
+        w.mean()
     }
 }
 
@@ -60,23 +55,12 @@ impl Rule for LeastRange {
     ghost criterion = { least_range };
 
     fn at_least_as_good(a: Window, b: Window) -> bool {
-        a.highest - a.lowest <= b.highest - b.lowest
+        a.range() <= b.range()
     }
 
     fn value(w: Window) -> Ratio {
-        Ratio {
-            num: w.lowest + w.highest,
-            den: 2,
-        }
+        w.middle()
     }
-}
-
-// The variance times the count's square.
-fn variation(w: Window) -> u64
-    ensures is { result ≡ varied (seen w) }
-    ensures small { result ≤ 2 ^ 42 }
-{
-    w.count * w.squares - w.sum * w.sum
 }
 
 #[cfg(test)]

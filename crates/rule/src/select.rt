@@ -6,6 +6,7 @@ ghost use Rattle.rule.specs.Views.{seen, standing};
 use crate::Rule;
 use crate::window::Window;
 use level::side::Side;
+use std::cmp::Ordering;
 
 // Whether, at a place of this rank, `a` wins over `b`: it is better by the rule; or equally good, and its value
 // is nearer to the rank; or equally near too, and its value is lower or higher.
@@ -22,15 +23,13 @@ pub fn wins<R: Rule>(rank: u16, side: Side, a: Window, b: Window) -> bool
     let q = R::value(b);
     let from_p = p.away(rank);
     let from_q = q.away(rank);
-    if from_p.less(from_q) {
-        return true;
-    }
-    if from_q.less(from_p) {
-        return false;
-    }
-    match side {
-        Side::Low => p.less(q),
-        Side::High => q.less(p),
+    match from_p.cmp(&from_q) {
+        Ordering::Less => true,
+        Ordering::Greater => false,
+        Ordering::Equal => match side {
+            Side::Low => p < q,
+            Side::High => q < p,
+        },
     }
 }
 
@@ -48,16 +47,11 @@ pub fn better<R: Rule>(rank: u16, side: Side, best: Option<Window>, next: Window
 pub fn settled<R: Rule>(rank: u16, side: Side, best: Option<Window>) -> u16
     ensures { result ≡ settling R.Rule.criterion side rank (standing best) }
 {
-    match best {
-        None => rank,
-        Some(window) => R::value(window).rounded(side),
-    }
+    best.map_or(rank, |window| R::value(window).rounded(side))
 }
 
 // What holds of the choice by any rule: there is a best candidate, the rank selected is the rounded value of
 // every best one, it lies among the ranks seen, and it turns round with them.
-pub fn choice_laws<R: Rule>() -> u8
+pub fn choice_laws<R: Rule>()
     ensures { Choice R.Rule.criterion }
-{
-    0
-}
+{}

@@ -34,6 +34,16 @@ abbrev pub four_digits : ℕ → List ℕ
 four_digits flags =
     hex_digit (flags / 256 / 16) ∷ hex_digit (flags / 256 % 16) ∷ hex_digit (flags % 256 / 16) ∷ hex_digit (flags % 256 % 16) ∷ []
 
+-- the texts of levels, a space before each
+abbrev pub spaced : {L : Type 0} → (L → List ℕ) → List L → List ℕ
+spaced text [] = []
+spaced text (x ∷ rest) = 32 ∷ (text x ++ spaced text rest)
+
+-- the texts of levels, parted by one space
+abbrev pub row_text : {L : Type 0} → (L → List ℕ) → List L → List ℕ
+row_text text [] = []
+row_text text (x ∷ rest) = text x ++ spaced text rest
+
 -- what stands before the level at a place of an image: an end of line before each row but the first, a space before any other
 abbrev pub gap : ℕ → ℕ → List ℕ
 gap width at = cond (at == 0) [] (cond (at % max width 1 == 0) (10 ∷ []) (32 ∷ []))

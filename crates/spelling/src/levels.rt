@@ -1,8 +1,8 @@
 // Bytes and levels of a line.
-ghost use Rattle.std.specs.Prelude.{◌≡◌, IfOk, vec_items, string_bytes};
+ghost use Rattle.std.specs.Prelude.{◌≡◌, cond, ◌==◌, [], IfOk, vec_items, string_bytes};
 ghost use Rattle.std.specs.Option.{option_map};
 ghost use Rattle.spelling.specs.Spellings.{Read, Spell};
-ghost use Rattle.spelling.specs.Texts.{gap as gap_before, hex_bytes, rows_text};
+ghost use Rattle.spelling.specs.Texts.{hex_bytes, row_text, rows_text};
 ghost use Rattle.spelling.specs.Words.{words as words_of};
 
 use crate::written::Written;
@@ -17,8 +17,8 @@ pub fn bytes(heap: Global, digits: &[u8]) -> Result<Option<Vec<u8>>, AllocError>
     if digits.len() % 2 == 1 {
         return Ok(None);
     }
-    for i in 0..digits.len() / 2 {
-        match hex::byte(digits[2 * i], digits[2 * i + 1]) {
+    for pair in digits.chunks_exact(2) {
+        match hex::byte(pair[0], pair[1]) {
             Some(byte) => bytes.push(byte)?,
             None => return Ok(None),
         }
@@ -43,28 +43,35 @@ pub fn levels<L: Written>(heap: Global, text: &str) -> Result<Option<Vec<L>>, Al
     Ok(Some(levels))
 }
 
-// An image as text: a line for each row, levels parted by one space.
-pub fn rows<L: Written>(heap: Global, width: usize, levels: &[L]) -> Result<String, AllocError>
-    ensures { IfOk result (λ s. string_bytes s ≡ rows_text L.Written.text width levels.now) }
+// Levels as text, parted by one space.
+pub fn row<L: Written>(heap: Global, levels: &[L]) -> Result<String, AllocError>
+    ensures { IfOk result (λ s. string_bytes s ≡ row_text L.Written.text levels.now) }
 {
     let mut text = String::new(heap);
-    for i in 0..levels.len() {
-        let level = levels[i].show(heap)?;
-        text.push_str(gap(width, i))?;
+    for (i, level) in levels.iter().enumerate() {
+        let level = level.show(heap)?;
+        text.push_str(parting(i, " "))?;
         text.push_str(level.as_str())?;
     }
     Ok(text)
 }
 
-// What stands before the level at a place of an image.
-fn gap(width: usize, at: usize) -> &'static str
-    ensures { result.now ≡ gap_before width at }
+// An image as text: a line for each row.
+pub fn rows<L: Written>(heap: Global, width: usize, levels: &[L]) -> Result<String, AllocError>
+    ensures { IfOk result (λ s. string_bytes s ≡ rows_text L.Written.text width levels.now) }
 {
-    if at == 0 {
-        ""
-    } else if at % width.max(1) == 0 {
-        "\n"
-    } else {
-        " "
+    let mut text = String::new(heap);
+    for (i, levels) in levels.chunks(width.max(1)).enumerate() {
+        let line = row(heap, levels)?;
+        text.push_str(parting(i, "\n"))?;
+        text.push_str(line.as_str())?;
     }
+    Ok(text)
+}
+
+// What stands before the part at an index: nothing before the first.
+fn parting(index: usize, sign: &'static str) -> &'static str
+    ensures { result.now ≡ cond (index == 0) [] sign.now }
+{
+    if index == 0 { "" } else { sign }
 }

@@ -1,9 +1,10 @@
 -- Planes that one step after another works on.
 use Rattle.std.proofs.Common.{◌≡◌, ℕ, zero, suc, ◌<◌, Bool, ◌&&◌, List, refl, ap, ◌∙◌, subst, arith}
 use Rattle.level.specs.declared.side.Side.{Side}
+use Rattle.level.specs.Sides.{opposite}
 use Rattle.level.specs.Kind.{Kind}
-use Rattle.recipe.specs.Elements.{Offsets, gather}
-use Rattle.steps.specs.Images.{Size, Place, Image, lands, folded}
+use Rattle.recipe.specs.Elements.{Offsets, gather, turned}
+use Rattle.steps.specs.Images.{Size, Place, Image, lands, folded, filtered}
 use Rattle.steps.specs.Planes.{places, index, Holds, Copied, Made, Changed}
 use Rattle.steps.proofs.Written.{index_fits}
 
@@ -30,20 +31,13 @@ module _ (K : Kind) {X : Type 0} (m : X → K.Level) (s : Size) where
   holds_copied f copied held p d i = ap m (copied.same (index s p) d (index_fits s p i)) ∙ held p d i
 
 module _ {K : Kind} {X : Type 0} {m : X → K.Level} {s : Size} where
-  -- made in the scratch plane and copied back
-  pub made_back : {φ : Image K → Image K} {at scratch : ℕ} {before between after : List X} (n : ℕ) → n ≡ places s →
-      Made K m s φ at scratch before between → Copied scratch at n between after → Changed K m s φ at scratch before after
-  made_back {φ} {at} {scratch} {before} {between} {after} n e made copied =
-      let back = subst (λ n. Copied scratch at n between after) e copied in
+  -- made in the scratch plane, by the element turned, and from there the way back
+  pub made_filtered : {at scratch : ℕ} {before between after : List X} (side back : Side) (E F : Offsets) → back ≡ opposite side → ((b : ℕ) → b < 25 → F b ≡ turned E b) →
+      Made K m s (folded K s side F) at scratch before between → Made K m s (folded K s back E) scratch at between after → Changed K m s (filtered K s side E) at scratch before after
+  made_filtered {at} {scratch} {before} {between} {after} side back E F against same one two =
+      let first = folded K s side (turned E) in
+      let second = subst (λ d. Made K m s (folded K s d E) scratch at between after) against two in
       record {
-        made = λ f held. holds_copied K m s (φ f) back (made.made f held);
-        kept = λ k d out off. back.kept k d out ∙ made.kept k d off;
+        made = λ f held. second.made (first f) (holds_same K m s between scratch (folded K s side F f) (first f) (λ p. folded_offsets K s side F (turned E) f p same) (one.made f held));
+        kept = λ k d out off. second.kept k d out ∙ one.kept k d off;
       }
-
-  -- made in the scratch plane and from there
-  pub made_twice : {φ ψ : Image K → Image K} (χ : Image K → Image K) {at scratch : ℕ} {before between after : List X} → ((f : Image K) (p : Place) → φ f p ≡ χ f p) →
-      Made K m s φ at scratch before between → Made K m s ψ scratch at between after → Changed K m s (λ f. ψ (χ f)) at scratch before after
-  made_twice {φ} {ψ} χ {at} {scratch} {before} {between} {after} same one two = record {
-    made = λ f held. two.made (χ f) (holds_same K m s between scratch (φ f) (χ f) (same f) (one.made f held));
-    kept = λ k d out off. two.kept k d out ∙ one.kept k d off;
-  }

@@ -28,16 +28,6 @@ row_there long from to w h r e p =
       apart = ⊎_elim (λ l. inl (omega arith)) (λ l. inr (omega arith)) p.apart;
     }
 
--- a row of the plane that is written
-pub row_of : (long from to w h r : ℕ) → r < h → Apart long from (w * h) to (w * h) → Apart long from (w * h) (to + r * w) w
-row_of long from to w h r lt p =
-    let fits = row_fits w h r lt in
-    record {
-      first = p.first;
-      second = omega arith;
-      apart = ⊎_elim (λ l. inl (omega arith)) (λ l. inr (omega arith)) p.apart;
-    }
-
 module _ (K : Kind) {X : Type 0} (m : X → K.Level) (side : Side) (s : Size) (E : Offsets) where
   -- the fold of the first n offsets
   abbrev pub folded_by : ℕ → Image K → Image K
@@ -100,9 +90,6 @@ module _ {K : Kind} {X : Type 0} {m : X → K.Level} {side : Side} {s : Size} {E
         (u.levels f (holds_kept K m s from to s.width before start f (apart_out _ _ _ _ _ apart) filled.kept held) x d lt);
     kept = λ k d out. u.kept k d out ∙ filled.kept k d out;
   }
-
-  pub rows_none : Rows K m side s E from to before 0 before
-  rows_none = record { levels = λ f held p d c r. absurd (omega arith); kept = λ k d h. refl }
 
   pub rows_more : (n : ℕ) (now after : List X) → Rows K m side s E from to before n now → RowFolded K m side s E n from (to + n * s.width) now after →
       n < s.height → Apart (length now) from (places s) to (places s) → Rows K m side s E from to before (n + 1) after

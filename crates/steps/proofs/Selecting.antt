@@ -1,6 +1,7 @@
 -- Windows gathered offset by offset, and the choice among the windows of the candidates.
 use Rattle.std.proofs.Common.{◌≡◌, ℕ, zero, suc, ◌+◌, ◌-◌, ◌/◌, ◌%◌, ◌<◌, ◌≤◌, Bool, true, false, cond, ◌&&◌, T, List, [], ◌∷◌, ◌++◌, length, Some, None, Option, sym, refl, ap, ◌∙◌, subst, ap₂, arith, length-append}
 use Rattle.std.specs.List.{AllByRecursion as Every}
+use Rattle.std.specs.Option.{MatchOption}
 use Rattle.std.proofs.lemmas.Bool.{and_parts, and_from}
 use Rattle.std.proofs.lemmas.Bool.Decides.{nat_tests}
 use Rattle.level.specs.declared.side.Side.{Side}
@@ -10,15 +11,14 @@ use Rattle.recipe.proofs.Gathered.{gather_taken, gather_left, lower, nearest}
 use Rattle.rule.specs.declared.window.Window.{Window}
 use Rattle.rule.specs.Ranks.{Numbers, numbers, Ranks}
 use Rattle.rule.specs.Windows.{made, highest_below}
-use Rattle.rule.specs.Views.{seen, standing}
+use Rattle.rule.specs.Views.{seen, standing, Gathered}
 use Rattle.rule.specs.Criterion.{Criterion}
 use Rattle.rule.specs.Choice.{somebody, winner, best, selection, Lies}
 use Rattle.rule.proofs.Chosen.{best_more}
 use Rattle.rule.proofs.Choosing.{choice}
 use Rattle.steps.specs.Images.{Size, Place, Inside, Image, moved, among, lands}
 use Rattle.steps.specs.Selections.{ranks_seen, candidates}
-use Rattle.steps.specs.Windowed.{WindowOf}
-use Rattle.steps.proofs.Folding.{among_tells, among_low}
+use Rattle.steps.proofs.Folding.{among_low}
 use Rattle.steps.proofs.Changing.{gather_takes}
 
 -- a number that is taken
@@ -56,12 +56,6 @@ module _ {A : Type 0} (takes : ℕ → Bool) (item : ℕ → A) where
       both [] ys p q = q
       both (x ∷ xs) ys p q = (p.0, both xs ys p.1 q)
 
--- where an offset that is taken leads
-pub lands_inside : (s : Size) (p : Place) (b : ℕ) → lands s p b ≡ true → Inside s (moved p b)
-lands_inside s p b e =
-    let q = and_parts (among s.width (p.column + b % 5)) (among s.height (p.row + b / 5)) e in
-    (among_tells s.width (p.column + b % 5) q.0, among_tells s.height (p.row + b / 5) q.1)
-
 -- the offset turned leads back
 lands_back : (s : Size) (p : Place) (b : ℕ) → Inside s p → b < 25 → lands s p b ≡ true → lands s (moved p b) (24 - b) ≡ true
 lands_back s p b i h e =
@@ -77,8 +71,13 @@ lands_back s p b i h e =
     there : (n x : ℕ) → x < n → among n (x + 2) ≡ true
     there n x h = grind (arith, nat_tests)
 
+-- what is known where there is nothing
+pub unseen : {A : Type 0} (P : Type 0) (Q : A → Type 0) (o : Option A) → MatchOption o P Q → ((a : A) → o ≡ Some a → ⊥) → P
+unseen P Q None none other = none
+unseen P Q (Some a) some other = absurd (other a refl)
+
 -- where there are ranks there is a window
-pub no_window : (rs : List ℕ) (o : Option Window) → 1 ≤ length rs → WindowOf rs o → ((w : Window) → o ≡ Some w → ⊥) → ⊥
+pub no_window : (rs : List ℕ) (o : Option Window) → 1 ≤ length rs → Gathered o rs → ((w : Window) → o ≡ Some w → ⊥) → ⊥
 no_window rs None some is other = let e = ap length is in omega arith
 no_window rs (Some w) some is other = other w refl
 
@@ -127,22 +126,25 @@ module _ (K : Kind) (s : Size) (E : Offsets) (f : Image K) (p : Place) (i : Insi
 pub seen_offsets : (K : Kind) (s : Size) (E F : Offsets) (f : Image K) (p : Place) → ((b : ℕ) → b < 25 → E b ≡ F b) → ranks_seen K s E f p ≡ ranks_seen K s F f p
 seen_offsets K s E F f p same = gather_takes _ _ _ _ _ 25 (λ b h. ap (λ t. t && lands s p b) (same b h))
 
+-- a window gathered at a place that is this one, through an element with the same offsets
+pub window_there : (K : Kind) (s s' : Size) (E F : Offsets) (f : Image K) (p p' : Place) (o : Option Window) → s' ≡ s → p' ≡ p → ((b : ℕ) → b < 25 → F b ≡ E b) →
+    Gathered o (ranks_seen K s' F f p') → Gathered o (ranks_seen K s E f p)
+window_there K s s' E F f p p' o size place same was = subst (Gathered o) (ap₂ (λ s p. ranks_seen K s F f p) size place ∙ seen_offsets K s F E f p same) was
+
 -- One offset more.
 module _ (K : Kind) (s : Size) (E : Offsets) (f : Image K) (p : Place) (b : ℕ) where
   pub window_left : (o after : Option Window) → (E b && lands s p b) ≡ false → after ≡ o →
-      WindowOf (ranks_upto K s E f p b) o → WindowOf (ranks_upto K s E f p (b + 1)) after
-  window_left o after e same was =
-      subst (λ o. WindowOf (ranks_upto K s E f p (b + 1)) o) (sym same) (subst (λ rs. WindowOf rs o) (sym (gather_left _ _ _ _ b e)) was)
+      Gathered o (ranks_upto K s E f p b) → Gathered after (ranks_upto K s E f p (b + 1))
+  window_left o after e same was = subst (λ o. Gathered o (ranks_upto K s E f p (b + 1))) (sym same) (subst (Gathered o) (sym (gather_left _ _ _ _ b e)) was)
 
   pub window_taken : (rank : ℕ) (o after : Option Window) (w : Window) → b < 25 → (E b && lands s p b) ≡ true → after ≡ Some w →
-      rank ≡ K.rank (f (moved p b)) → ((rs : List ℕ) → length rs < 25 → WindowOf rs o → seen w ≡ numbers (rs ++ (rank ∷ []))) →
-      WindowOf (ranks_upto K s E f p b) o → WindowOf (ranks_upto K s E f p (b + 1)) after
+      rank ≡ K.rank (f (moved p b)) → ((rs : List ℕ) → Gathered o rs → length rs < 25 → seen w ≡ numbers (rs ++ (rank ∷ []))) →
+      Gathered o (ranks_upto K s E f p b) → Gathered after (ranks_upto K s E f p (b + 1))
   window_taken rank o after w h e same is more was =
       let rs = ranks_upto K s E f p b in
       let next : rs ++ (rank ∷ []) ≡ ranks_upto K s E f p (b + 1) = ap (λ r. rs ++ (r ∷ [])) is ∙ sym (gather_taken _ _ _ _ b e) in
       let few = listed_few (λ b. E b && lands s p b) (λ b. K.rank (f (moved p b))) b in
-      subst (λ o. WindowOf (ranks_upto K s E f p (b + 1)) o) (sym same)
-      (subst (λ rs. WindowOf rs (Some w)) next (omega (arith, length-append rs (rank ∷ [])), more rs (omega arith) was))
+      subst (λ o. Gathered o (ranks_upto K s E f p (b + 1))) (sym same) (subst (Gathered (Some w)) next (more rs was (omega arith)))
 
   module _ (C : Criterion) (side : Side) (x : ℕ) where
     pub best_left : (o after : Option Window) → (E b && lands s p b) ≡ false → after ≡ o →

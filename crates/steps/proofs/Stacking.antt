@@ -1,5 +1,5 @@
 -- What the steps do to a stack of planes.
-use Rattle.std.proofs.Common.{◌≡◌, ℕ, ◌+◌, ◌-◌, ◌*◌, ◌<◌, ◌≤◌, List, [], ◌∷◌, length, get_or, sym, refl, ap, ◌∙◌, subst, inl, mul-le-mul_right, mul-le-mul, mul-le-mul_left, arith}
+use Rattle.std.proofs.Common.{◌≡◌, ℕ, ◌+◌, ◌-◌, ◌*◌, ◌<◌, ◌≤◌, List, [], ◌∷◌, length, get_or, sym, refl, ap, ◌∙◌, subst, inl, mul-le-mul_right, arith}
 use Rattle.level.specs.Kind.{Kind}
 use Rattle.rule.specs.Criterion.{Criterion}
 use Rattle.recipe.specs.Steps.{Change, negation, Merge, Form, start, change, merge, wants, adds}
@@ -138,9 +138,6 @@ module _ {K : Kind} {s : Size} {F : Form} {planes depth long n : ℕ} (e : n ≡
   pub top_fits : depth * n + n ≤ long
   top_fits = let k = facts in omega arith
 
-  pub scratch_fits : (planes + 1) * n + n ≤ long
-  scratch_fits = facts.scratch_fits
-
   pub frame_apart : F ≡ start → Apart long 0 n (depth * n + n) n
   frame_apart is = let k = facts in let l = facts.next_below (ready.lower (ap adds is)) in record { first = omega arith; second = omega arith; apart = inl (omega arith) }
 
@@ -149,10 +146,3 @@ module _ {K : Kind} {s : Size} {F : Form} {planes depth long n : ℕ} (e : n ≡
 
   pub two_apart : (g : Merge) (lower : ℕ) → F ≡ merge g → lower ≡ depth * n - n → Apart long lower (places s) (depth * n) (places s)
   two_apart g lower is below = let k = facts in let l = facts.two_above (subst (λ F. wants F ≤ depth) is ready.deep) in record { first = omega arith; second = omega arith; apart = inl (omega arith) }
-
-  -- each plane has a level
-  pub few_planes : 1 ≤ s.width → 1 ≤ s.height → planes + 1 ≤ long
-  few_planes some rows =
-      let k = facts in
-      let one : 1 ≤ n = subst (λ n. 1 ≤ n) (sym e) (mul-le-mul some rows) in
-      omega (arith, mul-le-mul_left (planes + 1) one)

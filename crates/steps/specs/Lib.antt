@@ -3,6 +3,6 @@ pub mod Selections
 pub mod Recipes
 pub mod Extents
 pub mod Planes
+pub mod Places
 pub mod Written
-pub mod Windowed
 pub mod Stacks

@@ -11,6 +11,11 @@ pub record Filled {X : Type 0} (level : X) (at n : ℕ) (before after : List X) 
   pub same : (k : ℕ) (d : X) → k < n → slice_index_or after (at + k) d ≡ level
   pub kept : Kept at n before after
 
+-- each of the n levels from `lower` on is what can become of it and the level as far from `upper`
+pub record MergedBy {X : Type 0} (becomes : X → X → X → Type 0) (lower upper n : ℕ) (before after : List X) : Type 0 where
+  pub levels : (k : ℕ) (d : X) → k < n → becomes (slice_index_or before (lower + k) d) (slice_index_or before (upper + k) d) (slice_index_or after (lower + k) d)
+  pub kept : Kept lower n before after
+
 module _ (K : Kind) {X : Type 0} (m : X → K.Level) (side : Side) where
   -- the row of w levels at `from`, moved by i - 2 columns, is bounded into the row at `to`, where it is inside
   pub record Bounded (w i from to : ℕ) (before after : List X) : Type 0 where

@@ -5,7 +5,7 @@ ghost use Rattle.steps.specs.Planes.{size_of};
 ghost use Rattle.steps.specs.Stacks.{Ready, Applied};
 
 use crate::extent::Extent;
-use crate::morphology::{close, dilate, erode, open};
+use crate::morphology::{filter, fold};
 use crate::planes::{average_planes, bound_planes, copy, negate};
 use crate::select::select;
 use crate::way::{Joins, Meets};
@@ -33,10 +33,10 @@ pub fn apply_step<L: Level, R: Rule>(
     match step {
         Step::Frame => copy(block, 0, top + n, n),
         Step::Negate => negate(block, top, extent),
-        Step::Erode(element) => erode(block, top, scratch, extent, element),
-        Step::Dilate(element) => dilate(block, top, scratch, extent, element),
-        Step::Open(element) => open(block, top, scratch, extent, element),
-        Step::Close(element) => close(block, top, scratch, extent, element),
+        Step::Erode(element) => fold::<L, Meets>(block, top, scratch, extent, element),
+        Step::Dilate(element) => fold::<L, Joins>(block, top, scratch, extent, element),
+        Step::Open(element) => filter::<L, Meets>(block, top, scratch, extent, element),
+        Step::Close(element) => filter::<L, Joins>(block, top, scratch, extent, element),
         Step::Meet => bound_planes::<L, Meets>(block, below, top, extent),
         Step::Join => bound_planes::<L, Joins>(block, below, top, extent),
         Step::MeanLow => average_planes(block, below, top, extent, Side::Low),

@@ -67,8 +67,7 @@ pub fn fold_plane<L: Level, W: Way>(
     requires { Apart (length block.old) from (places (size_of extent)) to (places (size_of extent)) }
     ensures { Made L.Level.kind L.Level.meaning (size_of extent) (folded L.Level.kind (size_of extent) W.Way.side (offsets element)) from to block.old block.new }
 {
-    let height = extent.height;
-    for row in 0..height {
+    for row in 0..extent.height {
         fold_row::<L, W>(block, from, to + row * extent.width, extent, row, element);
     }
 }

@@ -5,6 +5,7 @@ pub mod apply;
 pub mod extent;
 pub mod fold;
 pub mod morphology;
+mod place;
 pub mod planes;
 pub mod select;
 pub mod way;

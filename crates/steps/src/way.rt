@@ -1,7 +1,8 @@
 // The two ways to bound levels, as types, so that a loop over levels is compiled for each.
-ghost use Rattle.std.specs.Prelude.{◌≡◌};
+ghost use Rattle.std.specs.Prelude.{◌≡◌, refl};
 ghost use Rattle.level.specs.declared.side.Side.{Side as Sides};
 ghost use Rattle.level.specs.declared.side.Side.TheVariants.{Low, High};
+ghost use Rattle.level.specs.Sides.{opposite};
 ghost use Rattle.steps.specs.Images.{bound, unbounded};
 
 use level::Level;
@@ -19,6 +20,13 @@ pub trait Way {
         ensures { L.Level.meaning result ≡ bound L.Level.kind side (L.Level.meaning a) (L.Level.meaning b) };
 }
 
+// A way and the one that goes against it.
+pub trait TwoWay: Way {
+    type Back: Way;
+
+    ghost against: { Self.Back.Way.side ≡ opposite Self.side };
+}
+
 pub struct Meets;
 
 impl Way for Meets {
@@ -33,6 +41,12 @@ impl Way for Meets {
     }
 }
 
+impl TwoWay for Meets {
+    type Back = Joins;
+
+    ghost against = { refl };
+}
+
 pub struct Joins;
 
 impl Way for Joins {
@@ -45,4 +59,10 @@ impl Way for Joins {
     fn both<L: Level>(a: L, b: L) -> L {
         a.join(b)
     }
+}
+
+impl TwoWay for Joins {
+    type Back = Meets;
+
+    ghost against = { refl };
 }

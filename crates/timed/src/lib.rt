@@ -1,7 +1,7 @@
 // Erosion and selecting of one grey frame of 256 × 256, to be timed from C: bench/README.md says how.
 #![tactic(auto)]
 
-ghost use Rattle.std.specs.Prelude.{true, false, ◌≡◌, ◌≤◌, ◌<◌, length};
+ghost use Rattle.std.specs.Prelude.{true, false, ◌≡◌, ◌≤◌, ◌<◌, ◌*◌, length};
 ghost use Rattle.level.specs.declared.side.Side.TheVariants.{Low};
 ghost use Rattle.level.specs.Delivered.{greys, grey};
 ghost use Rattle.recipe.specs.Elements.{bits, is_element};
@@ -9,6 +9,7 @@ ghost use Rattle.rule.specs.Variance.{least_variance};
 ghost use Rattle.steps.specs.Images.{folded};
 ghost use Rattle.steps.specs.Selections.{selected};
 ghost use Rattle.steps.specs.Planes.{Made, Changed};
+ghost use Rattle.timed.specs.Frames.{frame};
 
 use level::side::Side;
 use recipe::element::Element;
@@ -24,13 +25,13 @@ const FRAME: Extent = Extent {
 };
 
 // How many levels the frame has.
-const PLANE: usize = 65536;
+const PLANE: usize = FRAME.width * FRAME.height;
 
 // Erodes the first plane of the block into the second, by the element of a mask. A block too short, or a mask of no element, is left alone.
 #[unsafe(no_mangle)]
 pub extern "C" fn erode_frame(block: &mut [u8], mask: u32)
-    ensures made { 131072 ≤ length block.old → is_element mask ≡ true → Made greys grey (record { width = 256; height = 256 }) (folded greys (record { width = 256; height = 256 }) Low (bits mask)) 0 65536 block.old block.new }
-    ensures short { length block.old < 131072 → block.new ≡ block.old }
+    ensures made { 2 * PLANE ≤ length block.old → is_element mask ≡ true → Made greys grey frame (folded greys frame Low (bits mask)) 0 PLANE block.old block.new }
+    ensures short { length block.old < 2 * PLANE → block.new ≡ block.old }
     ensures empty { is_element mask ≡ false → block.new ≡ block.old }
 {
     if block.len() < 2 * PLANE {
@@ -44,8 +45,8 @@ pub extern "C" fn erode_frame(block: &mut [u8], mask: u32)
 // Selects by least variance in the first plane of the block, through the second, by the element of a mask. A block too short, or a mask of no element, is left alone.
 #[unsafe(no_mangle)]
 pub extern "C" fn select_frame(block: &mut [u8], mask: u32)
-    ensures made { 131072 ≤ length block.old → is_element mask ≡ true → Changed greys grey (record { width = 256; height = 256 }) (selected greys (record { width = 256; height = 256 }) least_variance Low (bits mask)) 0 65536 block.old block.new }
-    ensures short { length block.old < 131072 → block.new ≡ block.old }
+    ensures made { 2 * PLANE ≤ length block.old → is_element mask ≡ true → Changed greys grey frame (selected greys frame least_variance Low (bits mask)) 0 PLANE block.old block.new }
+    ensures short { length block.old < 2 * PLANE → block.new ≡ block.old }
     ensures empty { is_element mask ≡ false → block.new ≡ block.old }
 {
     if block.len() < 2 * PLANE {

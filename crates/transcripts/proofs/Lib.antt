@@ -2,3 +2,4 @@ mod Making
 mod Calling
 mod Lining
 mod Scripting
+mod Telling

@@ -1,21 +1,19 @@
 -- Lines as they are served one by one.
-use Rattle.std.proofs.Common.{◌≡◌, ℕ, ◌+◌, ◌<◌, ◌≤◌, List, [], ◌∷◌, ◌++◌, map, length, get_or, drop, Some, None, Option, Result, sym, refl, ap, ◌∙◌, subst, append_assoc}
+use Rattle.std.proofs.Common.{◌≡◌, ℕ, ◌+◌, ◌<◌, ◌≤◌, List, [], ◌∷◌, ◌++◌, map, length, get_or, drop, Some, None, Ok, Err, Option, Result, sym, refl, ap, ◌∙◌, subst, append_assoc}
 use Rattle.std.proofs.lemmas.List.{drop_more, drop_all, append-nil}
 use Rattle.commands.specs.declared.command.Making.{Making}
-use Rattle.commands.specs.Commands.{Asked}
-use Rattle.transcripts.specs.declared.line.Line.{Line}
-use Rattle.transcripts.specs.declared.line.Line.TheVariants.{Silent, Note, Cell, Put, Unserved}
+use Rattle.commands.specs.Commands.{Asked, nothing, note, cell, put}
 use Rattle.transcripts.specs.declared.line.Start.{Start}
 use Rattle.transcripts.specs.declared.reply.Trouble.{Trouble}
-use Rattle.transcripts.specs.Transcripts.{ByCell, LineRead, Lines, heard}
+use Rattle.transcripts.specs.Transcripts.{AsksNoCell, ByCell, LineRead, Lines}
 
 -- a line that asks for no cell
-other : (line : Line) (new : Making → Type 0) (rest : Type 0) → ((making : Making) → line ≡ Cell making → ⊥) → rest → ByCell (heard line) new rest
-other Silent new rest none p = p
-other (Note text) new rest none p = p
-other (Cell making) new rest none p = absurd (none making refl)
-other (Put call) new rest none p = p
-other (Unserved trouble) new rest none p = p
+pub by_other : (r : Result Asked Trouble) (new : Making → Type 0) (other : Type 0) → AsksNoCell r → other → ByCell r new other
+by_other (Ok (cell making)) new other n p = absurd n
+by_other (Ok nothing) new other n p = p
+by_other (Ok (note text)) new other n p = p
+by_other (Ok (put x)) new other n p = p
+by_other (Err trouble) new other n p = p
 
 -- the line at an index, and those after it
 next_line : {X : Type 0} (f : X → List ℕ) (xs : List X) (i : ℕ) (x : X) → i < length xs → x ≡ get_or xs i x → map f (drop i xs) ≡ f x ∷ map f (drop (i + 1) xs)
@@ -29,21 +27,21 @@ module _ {State : Type 0} (Serves : State → ℕ → Result Asked Trouble → S
   pub so_far_none : (start : State) (from : ℕ) (text : List ℕ) → text ≡ [] → SoFar start from start from text
   so_far_none start from text e = record { goes_on = λ t next p. subst (λ u. Lines Serves start (from + 1) (map f (drop from xs)) (u ++ t) next) (sym e) p }
 
-  pub so_far_more : (start : State) (from : ℕ) (state after : State) (i : ℕ) (text more : List ℕ) (x : X) (line : Line) → i < length xs → x ≡ get_or xs i x → LineRead (f x) (heard line) → ((making : Making) → line ≡ Cell making → ⊥) → Serves state (i + 1) (heard line) after more → SoFar start from state i text → SoFar start from after (i + 1) (text ++ more)
-  so_far_more start from state after i text more x line l e read none serves so = record {
+  pub so_far_more : (start : State) (from : ℕ) (state after : State) (i : ℕ) (text more : List ℕ) (x : X) (r : Result Asked Trouble) → i < length xs → x ≡ get_or xs i x → LineRead (f x) r → AsksNoCell r → Serves state (i + 1) r after more → SoFar start from state i text → SoFar start from after (i + 1) (text ++ more)
+  so_far_more start from state after i text more x r l e read none serves so = record {
     goes_on = λ t next p.
         subst (λ u. Lines Serves start (from + 1) (map f (drop from xs)) u next) (sym (append_assoc text more t))
         (so.goes_on (more ++ t) next
         (subst (λ ls. Lines Serves state (i + 1) ls (more ++ t) next) (sym (next_line f xs i x l e))
-        (heard line, read, other line _ _ none (record { after = after; first = more; rest = t; serves = serves; others = p; all = refl }))));
+        (r, read, by_other r _ _ none (record { after = after; first = more; rest = t; serves = serves; others = p; all = refl }))));
   }
 
-  pub so_far_cell : (start : State) (from : ℕ) (state : State) (i : ℕ) (text : List ℕ) (x : X) (making : Making) → i < length xs → x ≡ get_or xs i x → LineRead (f x) (heard (Cell making)) → SoFar start from state i text → Lines Serves start (from + 1) (map f (drop from xs)) text (Some (record { line = i + 1; making = making }))
+  pub so_far_cell : (start : State) (from : ℕ) (state : State) (i : ℕ) (text : List ℕ) (x : X) (making : Making) → i < length xs → x ≡ get_or xs i x → LineRead (f x) (Ok (cell making)) → SoFar start from state i text → Lines Serves start (from + 1) (map f (drop from xs)) text (Some (record { line = i + 1; making = making }))
   so_far_cell start from state i text x making l e read so =
       subst (λ u. Lines Serves start (from + 1) (map f (drop from xs)) u (Some (record { line = i + 1; making = making }))) (append-nil text)
       (so.goes_on [] (Some (record { line = i + 1; making = making }))
       (subst (λ ls. Lines Serves state (i + 1) ls [] (Some (record { line = i + 1; making = making }))) (sym (next_line f xs i x l e))
-      (heard (Cell making), read, (refl, refl))))
+      (Ok (cell making), read, (refl, refl))))
 
   pub so_far_all : (start : State) (from : ℕ) (state : State) (i : ℕ) (text : List ℕ) → length xs ≤ i → SoFar start from state i text → Lines Serves start (from + 1) (map f (drop from xs)) text None
   so_far_all start from state i text l so =

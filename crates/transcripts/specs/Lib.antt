@@ -3,3 +3,4 @@ pub mod Replies
 pub mod Transcripts
 pub mod Scripts
 pub mod Serving
+pub mod Telling

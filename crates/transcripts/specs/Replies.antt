@@ -12,56 +12,67 @@ use Rattle.spelling.specs.Spellings.{Read, Spell}
 use Rattle.spelling.specs.Texts.{hex_bytes}
 use Rattle.spelling.specs.Words.{words}
 use Rattle.transcripts.specs.declared.reply.Reply.{Reply}
-use Rattle.transcripts.specs.declared.reply.Reply.TheVariants.{Told, Laid, Done, Image, Cleared, Unserved}
+use Rattle.transcripts.specs.declared.reply.Reply.TheVariants.{Told, Laid, Done, Image, Cleared}
 use Rattle.transcripts.specs.declared.reply.Trouble.{Trouble}
-use Rattle.transcripts.specs.declared.reply.Trouble.TheVariants.{NoBytes, NoLevels, TooLong}
+use Rattle.transcripts.specs.declared.reply.Trouble.TheVariants.{Unread, NotText, NoBytes, NoLevels, TooLong, NoMemory, NoCell}
 
 -- the most levels that a block or an output may have here, more than a cell can use
 abbrev pub most : ℕ
 most = 1048576
 
 module _ (K : Kind) {P : Type 0} (m : P → K.Level) where
-  -- the reply is an image of these levels
-  abbrev pub Pictures : List K.Level → Reply P → Type 0
-  Pictures levels (Image image) = map m (vec_items image) ≡ levels
-  Pictures levels (Told verdict) = ⊥
-  Pictures levels Laid = ⊥
-  Pictures levels (Done n) = ⊥
-  Pictures levels Cleared = ⊥
-  Pictures levels (Unserved trouble) = ⊥
+  -- the answer is an image of these levels
+  abbrev pub Pictures : List K.Level → Result (Reply P) Trouble → Type 0
+  Pictures levels (Ok (Image image)) = map m (vec_items image) ≡ levels
+  Pictures levels (Ok (Told verdict)) = ⊥
+  Pictures levels (Ok Laid) = ⊥
+  Pictures levels (Ok (Done n)) = ⊥
+  Pictures levels (Ok Cleared) = ⊥
+  Pictures levels (Err trouble) = ⊥
 
-  -- the reply tells the answer to a call
-  abbrev pub Tells : (c : Call K.Level) → Answer (Good c) → Reply P → Type 0
-  Tells c (refused r) reply = reply ≡ Told (Refused r)
-  Tells (Admit bytes) (given sheet) reply = reply ≡ Told (Admitted sheet)
-  Tells (Lay f) (given u) reply = reply ≡ Laid
-  Tells (Steps n) (given p) reply = reply ≡ Done (record { done = p.0; left = p.1 })
-  Tells (Take n) (given image) reply = Pictures image reply
-  Tells Clear (given u) reply = reply ≡ Cleared
+  -- the answer tells what a call to the cell gives
+  abbrev pub Tells : (c : Call K.Level) → Answer (Good c) → Result (Reply P) Trouble → Type 0
+  Tells c (refused r) answer = answer ≡ Ok (Told (Refused r))
+  Tells (Admit bytes) (given sheet) answer = answer ≡ Ok (Told (Admitted sheet))
+  Tells (Lay f) (given u) answer = answer ≡ Ok Laid
+  Tells (Steps n) (given p) answer = answer ≡ Ok (Done (record { done = p.0; left = p.1 }))
+  Tells (Take n) (given image) answer = Pictures image answer
+  Tells Clear (given u) answer = answer ≡ Ok Cleared
 
 module _ (K : Kind) {P : Type 0} (m : P → K.Level) (C : Criterion) (spells : List ℕ → P → Type 0) (s : Setting) where
-  -- the call is put, and the reply tells the answer that is defined after this history
-  pub record Calls (h : History K.Level) (c : Call K.Level) (h' : History K.Level) (reply : Reply P) : Type 0 where
+  -- the call is put, and told is what is defined after this history
+  pub record Calls (h : History K.Level) (c : Call K.Level) (h' : History K.Level) (answer : Result (Reply P) Trouble) : Type 0 where
     pub grown : h' ≡ event c (defined K C s h c) ∷ h
-    pub tells : Tells K m c (defined K C s h c) reply
+    pub tells : Tells K m c (defined K C s h c) answer
 
   -- no call is put
-  pub record Stays (trouble : Trouble) (h h' : History K.Level) (reply : Reply P) : Type 0 where
+  pub record Stays (trouble : Trouble) (h h' : History K.Level) (answer : Result (Reply P) Trouble) : Type 0 where
     pub same : h' ≡ h
-    pub tells : reply ≡ Unserved trouble
+    pub tells : answer ≡ Err trouble
 
-  -- what is replied to a call of the script
-  abbrev pub Replies : History K.Level → Put → History K.Level → Reply P → Type 0
-  Replies h (admit text) h' reply = MatchOption (hex_bytes text) (Stays NoBytes h h' reply) (λ bytes. Calls h (Admit bytes) h' reply)
-  Replies h (lay text) h' reply =
+  -- what is answered to a call of the script
+  abbrev pub Replies : History K.Level → Put → History K.Level → Result (Reply P) Trouble → Type 0
+  Replies h (admit text) h' answer = MatchOption (hex_bytes text) (Stays NoBytes h h' answer) (λ bytes. Calls h (Admit bytes) h' answer)
+  Replies h (lay text) h' answer =
       (levels : Option (List P)) × Read (Spell spells) (words text) levels
-      × MatchOption levels (Stays NoLevels h h' reply) (λ frame. Calls h (Lay (map m frame)) h' reply)
-  Replies h (step count) h' reply = Calls h (Steps count) h' reply
-  Replies h (take length) h' reply = MatchBool (nat_le length most) (Calls h (Take length) h' reply) (Stays TooLong h h' reply)
-  Replies h clear h' reply = Calls h Clear h' reply
+      × MatchOption levels (Stays NoLevels h h' answer) (λ frame. Calls h (Lay (map m frame)) h' answer)
+  Replies h (step count) h' answer = Calls h (Steps count) h' answer
+  Replies h (take length) h' answer = MatchBool (nat_le length most) (Calls h (Take length) h' answer) (Stays TooLong h h' answer)
+  Replies h clear h' answer = Calls h Clear h' answer
 
--- a call of the script is replied to by a desk, whatever history is behind it; where memory is wanting the desk stays as it was
-abbrev pub Replied : (K : Kind) {S P R E : Type 0} → (P → K.Level) → Criterion → (List ℕ → P → Type 0) → Desk S P R → Desk S P R → Put → Result (Reply P) E → Type 0
-Replied K m C spells before after put (Ok reply) =
-    (s : Setting) (h : History K.Level) → After K m C before s h → (h' : History K.Level) × Replies K m C spells s h put h' reply × After K m C after s h'
-Replied K m C spells before after put (Err e) = after ≡ before
+-- what holds where memory is wanting for a line, and what holds else
+abbrev pub ByMemory : {P : Type 0} → Result (Reply P) Trouble → Type 0 → Type 0 → Type 0
+ByMemory (Ok reply) wanting other = other
+ByMemory (Err (Unread fault)) wanting other = other
+ByMemory (Err NotText) wanting other = other
+ByMemory (Err NoBytes) wanting other = other
+ByMemory (Err NoLevels) wanting other = other
+ByMemory (Err TooLong) wanting other = other
+ByMemory (Err NoMemory) wanting other = wanting
+ByMemory (Err NoCell) wanting other = other
+
+-- a call of the script is answered by a desk, whatever history is behind it; where memory is wanting the desk stays as it was
+abbrev pub Replied : (K : Kind) {S P R : Type 0} → (P → K.Level) → Criterion → (List ℕ → P → Type 0) → Desk S P R → Desk S P R → Put → Result (Reply P) Trouble → Type 0
+Replied K m C spells before after put answer =
+    ByMemory answer (after ≡ before)
+    ((s : Setting) (h : History K.Level) → After K m C before s h → (h' : History K.Level) × Replies K m C spells s h put h' answer × After K m C after s h')

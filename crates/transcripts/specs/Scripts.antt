@@ -1,5 +1,5 @@
 -- What a whole script prints, with the kinds of level and the rules that it can name.
-use Rattle.std.specs.Prelude.{◌≡◌, ℕ, ◌+◌, Bool, cond, List, [], ◌∷◌, ◌++◌, ℤ, Some, None, codes, decimal, MatchBool, Option, Result, nat_le}
+use Rattle.std.specs.Prelude.{◌≡◌, ℕ, ◌+◌, ◌⊎◌, Bool, cond, List, [], ◌∷◌, ◌++◌, ℤ, codes, decimal, MatchBool, Option, Result, nat_le}
 use Rattle.level.specs.Kind.{Kind}
 use Rattle.level.specs.Delivered.{greys, grey, heights, height, masks, mask, labels, label}
 use Rattle.level.specs.Pairs.{pair}
@@ -70,10 +70,6 @@ abbrev pub criterion_of : RuleName → Criterion
 criterion_of Variance = least_variance
 criterion_of Range = least_range
 
--- the lines of a cell of this kind
-abbrev pub ServedAs : KindName → Criterion → Start → List (List ℕ) → List ℕ → Option Start → Type 0
-ServedAs k C = Session (kind_of k) (meaning_of k) C (SpellsOf k) (shown_of k)
-
 -- the cell that a script has come to, with the history behind it
 pub data World : Type 0 where
   none : World
@@ -96,25 +92,25 @@ Makes n making w text =
 abbrev pub Goes : World → ℕ → Result Asked Trouble → World → List ℕ → Type 0
 Goes before n r after text = ByCell r (λ making. Makes n making after text) (StaysIn before n r after text)
 
--- what lines from number n on print
-abbrev pub Script : World → ℕ → List (List ℕ) → List ℕ → Type 0
-Script w n [] text = text ≡ []
-Script w n (line ∷ rest) text = (r : Result Asked Trouble) × LineRead line r × Onward Goes (λ after t. Script after (n + 1) rest t) w n r text
+module _ (Step : World → ℕ → Result Asked Trouble → World → List ℕ → Type 0) where
+  -- what lines from number n on print, each after those before it
+  abbrev pub Script : World → ℕ → List (List ℕ) → List ℕ → Type 0
+  Script w n [] text = text ≡ []
+  Script w n (line ∷ rest) text = (r : Result Asked Trouble) × LineRead line r × Onward Step (λ after t. Script after (n + 1) rest t) w n r text
 
 -- what a script of these lines prints
 abbrev pub Prints : List (List ℕ) → List ℕ → Type 0
-Prints lines text = Script none 1 lines text
+Prints lines text = Script Goes none 1 lines text
 
--- what is printed from a line that asks for a cell on; `after n` are the lines after the line of that number
-pub record FromStart (after : ℕ → List (List ℕ)) (start : Start) (text : List ℕ) : Type 0 where
-  pub world : World
-  pub first : List ℕ
-  pub rest : List ℕ
-  pub makes : Makes start.line start.making world first
-  pub others : Script world (start.line + 1) (after start.line) rest
-  pub all : text ≡ first ++ rest
+module _ (Misses : ℕ → List ℕ → Type 0) where
+  -- what a line does and tells; or there is no memory for it, and something is told in its place
+  abbrev pub GoesOrMisses : World → ℕ → Result Asked Trouble → World → List ℕ → Type 0
+  GoesOrMisses before n r after text = Goes before n r after text ⊎ (ByCell r (λ making. after ≡ none) (after ≡ before) × Misses n text)
 
--- what is still printed
-abbrev pub GoesOn : (ℕ → List (List ℕ)) → Option Start → List ℕ → Type 0
-GoesOn after None text = text ≡ []
-GoesOn after (Some start) text = FromStart after start text
+  -- what is told of a script of these lines
+  abbrev pub ToldOf : List (List ℕ) → List ℕ → Type 0
+  ToldOf lines text = Script GoesOrMisses none 1 lines text
+
+  -- the lines of a cell of this kind
+  abbrev pub ServedAs : KindName → Criterion → Start → List (List ℕ) → List ℕ → Option Start → Type 0
+  ServedAs k C = Session Misses (kind_of k) (meaning_of k) C (SpellsOf k) (shown_of k)

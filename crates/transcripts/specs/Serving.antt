@@ -8,7 +8,7 @@ use Rattle.desk.specs.Desks.{After}
 use Rattle.commands.specs.Commands.{Asked}
 use Rattle.transcripts.specs.declared.reply.Trouble.{Trouble}
 use Rattle.transcripts.specs.declared.line.Start.{Start}
-use Rattle.transcripts.specs.Transcripts.{Celled, Lines}
+use Rattle.transcripts.specs.Transcripts.{Celled, Lines, Served}
 
 module _ (K : Kind) {S P R : Type 0} (m : P → K.Level) (C : Criterion) (spells : List ℕ → P → Type 0) (shown : P → List ℕ) (width : ℕ) where
   -- a line is served by a desk for frames of this width
@@ -17,8 +17,8 @@ module _ (K : Kind) {S P R : Type 0} (m : P → K.Level) (C : Criterion) (spells
       (s : Setting) (h : History K.Level) → s.width ≡ width → After K m C before s h
       → (h' : History K.Level) × Celled K m C spells shown s h n r h' text × After K m C after s h'
 
-  -- lines are served by it, up to one that asks for a new cell
-  abbrev pub LinesServed : Desk S P R → ℕ → List (List ℕ) → List ℕ → Option Start → Type 0
-  LinesServed before n lines text next =
+  -- lines are served by it, up to one that asks for a new cell; something is told in place of those that there is no memory for
+  abbrev pub LinesServed : (ℕ → List ℕ → Type 0) → Desk S P R → ℕ → List (List ℕ) → List ℕ → Option Start → Type 0
+  LinesServed Misses before n lines text next =
       (s : Setting) (h : History K.Level) → s.width ≡ width → After K m C before s h
-      → Lines (Celled K m C spells shown s) h n lines text next
+      → Lines (Served Misses (Celled K m C spells shown s)) h n lines text next

@@ -5,23 +5,13 @@ use Rattle.rule.specs.Criterion.{Criterion}
 use Rattle.cell.specs.Histories.{History, Setting, setting}
 use Rattle.commands.specs.declared.command.Making.{Making}
 use Rattle.commands.specs.declared.command.Unread.{Unread}
-use Rattle.commands.specs.Commands.{Asked, Asks, nothing, note, cell, put, put_by}
+use Rattle.commands.specs.Commands.{Asked, Asks, nothing, note, cell, put}
 use Rattle.transcripts.specs.declared.reply.Reply.{Reply}
 use Rattle.transcripts.specs.declared.reply.Trouble.{Trouble}
 use Rattle.transcripts.specs.declared.reply.Trouble.TheVariants.{Unread as Unreadable, NotText, NoCell, TooLong}
-use Rattle.transcripts.specs.declared.line.Line.{Line}
-use Rattle.transcripts.specs.declared.line.Line.TheVariants.{Silent, Note, Cell, Put as PutLine, Unserved}
 use Rattle.transcripts.specs.declared.line.Start.{Start}
 use Rattle.transcripts.specs.Replies.{Replies, most}
-use Rattle.transcripts.specs.Texts.{reply_text, unserved_text}
-
--- a line as the code has it
-abbrev pub heard : Line → Result Asked Trouble
-heard Silent = Ok nothing
-heard (Note text) = Ok (note text.now)
-heard (Cell making) = Ok (cell making)
-heard (PutLine call) = Ok (put (put_by call))
-heard (Unserved trouble) = Err trouble
+use Rattle.transcripts.specs.Texts.{answer_text, unserved_text}
 
 -- a line as it is read, with a trouble where it cannot be
 abbrev pub readable : Result Asked Unread → Result Asked Trouble
@@ -33,13 +23,17 @@ abbrev pub LineRead : List ℕ → Result Asked Trouble → Type 0
 LineRead line r =
     ((IsUtf8 line → ⊥) × (r ≡ Err NotText)) ⊎ (IsUtf8 line × ((x : Result Asked Unread) × Asks line x × (r ≡ readable x)))
 
--- whether a line that was read asks for a new cell
+-- by whether a line that was read asks for a new cell
 abbrev pub ByCell : Result Asked Trouble → (Making → Type 0) → Type 0 → Type 0
 ByCell (Ok (cell making)) new other = new making
 ByCell (Ok nothing) new other = other
 ByCell (Ok (note text)) new other = other
 ByCell (Ok (put p)) new other = other
 ByCell (Err trouble) new other = other
+
+-- a line that was read asks for no new cell
+abbrev pub AsksNoCell : Result Asked Trouble → Type 0
+AsksNoCell r = ByCell r (λ making. ⊥) (Unit {0})
 
 module _ {State : Type 0} (Serves : State → ℕ → Result Asked Trouble → State → List ℕ → Type 0) where
   -- a line is served, and then the others
@@ -75,7 +69,7 @@ module _ (K : Kind) {P : Type 0} (m : P → K.Level) (C : Criterion) (spells : L
   Celled h n (Ok (note u)) h' text = (h' ≡ h) × (text ≡ u ++ (10 ∷ []))
   Celled h n (Ok (cell making)) h' text = (h' ≡ h) × (text ≡ [])
   Celled h n (Ok (put p)) h' text =
-      (reply : Reply P) × Replies K m C spells s h p h' reply × (text ≡ reply_text shown s.width n reply)
+      (answer : Result (Reply P) Trouble) × Replies K m C spells s h p h' answer × (text ≡ answer_text shown s.width n answer)
 
 -- the size and the block that a cell is asked for
 abbrev pub asked_setting : Making → Setting
@@ -87,9 +81,21 @@ pub record Headed (served : List ℕ → Option Start → Type 0) (head text : L
   pub lines : served rest next
   pub all : text ≡ head ++ rest
 
--- a new cell is made and serves the lines after its own; one with too many levels is not, and they find no cell
-abbrev pub Session : (K : Kind) {P : Type 0} → (P → K.Level) → Criterion → (List ℕ → P → Type 0) → (P → List ℕ) → Start → List (List ℕ) → List ℕ → Option Start → Type 0
-Session K m C spells shown start lines text next =
-    MatchBool (nat_le start.making.levels most)
-    (Headed (Lines (Celled K m C spells shown (asked_setting start.making)) [] (start.line + 1) lines) (codes "made\n") text next)
-    (Headed (Lines Bare tt (start.line + 1) lines) (unserved_text start.line TooLong) text next)
+module _ (Misses : ℕ → List ℕ → Type 0) where
+  -- a line is served; or there is no memory for it, something is told in its place, and nothing has changed
+  abbrev pub Served : {State : Type 0} → (State → ℕ → Result Asked Trouble → State → List ℕ → Type 0) → State → ℕ → Result Asked Trouble → State → List ℕ → Type 0
+  Served serves before n r after text = serves before n r after text ⊎ ((after ≡ before) × Misses n text)
+
+  -- something is told in place of a line, and the lines after it find no cell
+  pub record Missed (start : Start) (lines : List (List ℕ)) (text : List ℕ) (next : Option Start) : Type 0 where
+    pub head : List ℕ
+    pub misses : Misses start.line head
+    pub others : Headed (Lines (Served Bare) tt (start.line + 1) lines) head text next
+
+  -- a new cell is made and serves the lines after its own; one with too many levels, or with more than memory has, is not, and they find no cell
+  abbrev pub Session : (K : Kind) {P : Type 0} → (P → K.Level) → Criterion → (List ℕ → P → Type 0) → (P → List ℕ) → Start → List (List ℕ) → List ℕ → Option Start → Type 0
+  Session K m C spells shown start lines text next =
+      Missed start lines text next
+      ⊎ MatchBool (nat_le start.making.levels most)
+      (Headed (Lines (Served (Celled K m C spells shown (asked_setting start.making))) [] (start.line + 1) lines) (codes "made\n") text next)
+      (Headed (Lines (Served Bare) tt (start.line + 1) lines) (unserved_text start.line TooLong) text next)

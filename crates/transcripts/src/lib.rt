@@ -3,6 +3,7 @@
 
 mod line;
 mod put;
-mod reply;
+pub mod reply;
 mod serve;
 pub mod session;
+pub mod teller;

@@ -1,22 +1,12 @@
 // Lines of a script.
-ghost use Rattle.transcripts.specs.Transcripts.{LineRead, heard as heard_by};
 ghost use Rattle.commands.specs.Commands.{asked_by};
-ghost use Rattle.std.specs.Prelude.{◌≡◌};
-ghost use Rattle.transcripts.specs.Transcripts.{readable};
+ghost use Rattle.commands.specs.declared.command.Command.TheVariants.{Cell};
+ghost use Rattle.std.specs.Prelude.{◌≡◌, Ok, MatchOption};
+ghost use Rattle.transcripts.specs.Transcripts.{AsksNoCell, LineRead};
 
 use crate::reply::Trouble;
 use commands::command;
-use commands::command::{Call, Command, Making, Unread};
-
-// What a line asks for, or why it cannot be read.
-#[derive(Clone, Copy)]
-pub enum Line<'a> {
-    Silent,
-    Note(&'a str),
-    Cell(Making),
-    Put(Call<'a>),
-    Unserved(Trouble),
-}
+use commands::command::{Command, Making};
 
 // A line that asks for a new cell.
 #[derive(Clone, Copy)]
@@ -25,25 +15,23 @@ pub struct Start {
     pub making: Making,
 }
 
-// What was read from a text.
-fn heard(read: Result<Command<'_>, Unread>) -> Line<'_>
-    ensures { heard_by result ≡ readable (asked_by read.entry) }
+// What a line asks for.
+pub fn read(line: &[u8]) -> Result<Command<'_>, Trouble>
+    ensures { LineRead line.now (asked_by result) }
 {
-    match read {
-        Ok(Command::Nothing) => Line::Silent,
-        Ok(Command::Note(text)) => Line::Note(text),
-        Ok(Command::Cell(making)) => Line::Cell(making),
-        Ok(Command::Put(call)) => Line::Put(call),
-        Err(fault) => Line::Unserved(Trouble::Unread(fault)),
-    }
+    let text = std::str::from_utf8(line)?;
+    Ok(command::read(text)?)
 }
 
-// Reads a line.
-pub fn read(line: &[u8]) -> Line<'_>
-    ensures { LineRead line.now (heard_by result) }
+// The new cell that a line asks for, if it asks for one.
+pub fn making(command: &Result<Command<'_>, Trouble>) -> Option<Making>
+    ensures { MatchOption result (AsksNoCell (asked_by command.now)) (λ making. command.now ≡ Ok (Cell making)) }
 {
-    match std::str::from_utf8(line) {
-        Ok(text) => heard(command::read(text)),
-        Err(_) => Line::Unserved(Trouble::NotText),
+    match *command {
+        Ok(Command::Cell(making)) => Some(making),
+        Ok(Command::Nothing) => None,
+        Ok(Command::Note(_)) => None,
+        Ok(Command::Put(_)) => None,
+        Err(_) => None,
     }
 }

@@ -45,18 +45,14 @@ fn refused<L>(fault: CellFault) -> Reply<L>
 }
 
 // Puts a recipe in hexadecimal digits.
-fn admit<S: Setup>(
-    heap: Global,
-    desk: &mut Desk<S>,
-    text: &str,
-) -> Result<Reply<S::Pixel>, AllocError>
+fn admit<S: Setup>(heap: Global, desk: &mut Desk<S>, text: &str) -> Result<Reply<S::Pixel>, Trouble>
 where
     S::Pixel: Written,
     requires { Tidy S.Pixel.Level.kind S.Pixel.Level.meaning S.Selector.Rule.criterion desk.old }
     ensures { Replied S.Pixel.Level.kind S.Pixel.Level.meaning S.Selector.Rule.criterion S.Pixel.Written.spells desk.old desk.new (admit_put text.now) result }
 {
     let Some(bytes) = levels::bytes(heap, text.as_bytes())? else {
-        return Ok(Reply::Unserved(Trouble::NoBytes));
+        return Err(Trouble::NoBytes);
     };
     match desk.admit(&bytes) {
         Ok(sheet) => Ok(Reply::Told(Verdict::Admitted(sheet))),
@@ -65,18 +61,14 @@ where
 }
 
 // Puts a frame as words.
-fn lay<S: Setup>(
-    heap: Global,
-    desk: &mut Desk<S>,
-    text: &str,
-) -> Result<Reply<S::Pixel>, AllocError>
+fn lay<S: Setup>(heap: Global, desk: &mut Desk<S>, text: &str) -> Result<Reply<S::Pixel>, Trouble>
 where
     S::Pixel: Written,
     requires { Tidy S.Pixel.Level.kind S.Pixel.Level.meaning S.Selector.Rule.criterion desk.old }
     ensures { Replied S.Pixel.Level.kind S.Pixel.Level.meaning S.Selector.Rule.criterion S.Pixel.Written.spells desk.old desk.new (lay_put text.now) result }
 {
     let Some(frame) = levels::levels::<S::Pixel>(heap, text)? else {
-        return Ok(Reply::Unserved(Trouble::NoLevels));
+        return Err(Trouble::NoLevels);
     };
     match desk.lay(&frame) {
         Ok(()) => Ok(Reply::Laid),
@@ -85,7 +77,7 @@ where
 }
 
 // Steps.
-fn step<S: Setup>(desk: &mut Desk<S>, count: usize) -> Result<Reply<S::Pixel>, AllocError>
+fn step<S: Setup>(desk: &mut Desk<S>, count: usize) -> Result<Reply<S::Pixel>, Trouble>
 where
     S::Pixel: Written,
     requires { Tidy S.Pixel.Level.kind S.Pixel.Level.meaning S.Selector.Rule.criterion desk.old }
@@ -102,14 +94,14 @@ fn take<S: Setup>(
     heap: Global,
     desk: &mut Desk<S>,
     length: usize,
-) -> Result<Reply<S::Pixel>, AllocError>
+) -> Result<Reply<S::Pixel>, Trouble>
 where
     S::Pixel: Written,
     requires { Tidy S.Pixel.Level.kind S.Pixel.Level.meaning S.Selector.Rule.criterion desk.old }
     ensures { Replied S.Pixel.Level.kind S.Pixel.Level.meaning S.Selector.Rule.criterion S.Pixel.Written.spells desk.old desk.new (take_put length) result }
 {
     let Some(mut out) = blank::<S::Pixel>(heap, length)? else {
-        return Ok(Reply::Unserved(Trouble::TooLong));
+        return Err(Trouble::TooLong);
     };
     match desk.take(&mut out) {
         Ok(()) => Ok(Reply::Image(out)),
@@ -118,7 +110,7 @@ where
 }
 
 // Clears the run.
-fn clear<S: Setup>(desk: &mut Desk<S>) -> Result<Reply<S::Pixel>, AllocError>
+fn clear<S: Setup>(desk: &mut Desk<S>) -> Result<Reply<S::Pixel>, Trouble>
 where
     S::Pixel: Written,
     requires { Tidy S.Pixel.Level.kind S.Pixel.Level.meaning S.Selector.Rule.criterion desk.old }
@@ -135,7 +127,7 @@ pub fn put<S: Setup>(
     heap: Global,
     desk: &mut Desk<S>,
     call: Call<'_>,
-) -> Result<Reply<S::Pixel>, AllocError>
+) -> Result<Reply<S::Pixel>, Trouble>
 where
     S::Pixel: Written,
     requires { Tidy S.Pixel.Level.kind S.Pixel.Level.meaning S.Selector.Rule.criterion desk.old }

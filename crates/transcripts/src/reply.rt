@@ -1,5 +1,6 @@
-// What is replied to a call, and its text.
+// What is answered to a line, and its text.
 ghost use Rattle.std.specs.Prelude.{◌≡◌, IfOk, Some, string_bytes};
+ghost use Rattle.transcripts.specs.declared.reply.Trouble.TheVariants.{NoMemory, NotText, Unread as Unreadable};
 ghost use Rattle.transcripts.specs.Texts.{reply_text, trouble_text, unserved_text};
 
 use cell::calls::Stepped;
@@ -7,21 +8,24 @@ use commands::command::Unread;
 use report::verdict::Verdict;
 use spelling::levels;
 use spelling::written::Written;
-use std::alloc::{AllocError, Global};
+use std::alloc::{AllocError, AllocFailed, Global};
+use std::error::Error;
 use std::fmt;
+use std::str::Utf8Error;
 
 // Why a line is not served.
-#[derive(Clone, Copy)]
+#[derive(Clone, Copy, Debug, PartialEq, Eq)]
 pub enum Trouble {
     Unread(Unread),
     NotText,
     NoBytes,
     NoLevels,
     TooLong,
+    NoMemory,
     NoCell,
 }
 
-// The cell's answer to a call, or why it was not put.
+// The cell's reply to a call.
 #[derive(Drop)]
 pub enum Reply<L> {
     Told(Verdict),
@@ -29,7 +33,38 @@ pub enum Reply<L> {
     Done(Stepped),
     Image(Vec<L>),
     Cleared,
-    Unserved(Trouble),
+}
+
+impl From<Utf8Error> for Trouble {
+    ghost from_gives = { λ _ trouble. trouble ≡ NotText };
+
+    fn from(_: Utf8Error) -> Trouble {
+        Trouble::NotText
+    }
+}
+
+impl From<Unread> for Trouble {
+    ghost from_gives = { λ fault trouble. trouble ≡ Unreadable fault };
+
+    fn from(fault: Unread) -> Trouble {
+        Trouble::Unread(fault)
+    }
+}
+
+impl From<AllocError> for Trouble {
+    ghost from_gives = { λ _ trouble. trouble ≡ NoMemory };
+
+    fn from(_: AllocError) -> Trouble {
+        Trouble::NoMemory
+    }
+}
+
+impl<T: Drop> From<AllocFailed<T>> for Trouble {
+    ghost from_gives = { λ _ trouble. trouble ≡ NoMemory };
+
+    fn from(_: AllocFailed<T>) -> Trouble {
+        Trouble::NoMemory
+    }
 }
 
 impl fmt::Display for Trouble {
@@ -42,10 +77,13 @@ impl fmt::Display for Trouble {
             Trouble::NoBytes => f.write_str("no bytes in hexadecimal digits"),
             Trouble::NoLevels => f.write_str("no levels of the cell's kind"),
             Trouble::TooLong => f.write_str("more levels than can be served"),
+            Trouble::NoMemory => f.write_str("no memory for it"),
             Trouble::NoCell => f.write_str("no cell yet"),
         }
     }
 }
+
+impl Error for Trouble {}
 
 // Says why a line is not served.
 pub fn unserved(heap: Global, line: usize, trouble: Trouble) -> Result<String, AllocError>
@@ -56,8 +94,8 @@ pub fn unserved(heap: Global, line: usize, trouble: Trouble) -> Result<String, A
 
 impl<L: Written> Reply<L> {
     // The reply as text; an image has a line for each row.
-    pub fn text(self, heap: Global, width: usize, line: usize) -> Result<String, AllocError>
-        ensures { IfOk result (λ s. string_bytes s ≡ reply_text L.Written.text width line self) }
+    pub fn text(self, heap: Global, width: usize) -> Result<String, AllocError>
+        ensures { IfOk result (λ s. string_bytes s ≡ reply_text L.Written.text width self) }
     {
         match self {
             Reply::Told(verdict) => format!(in heap; "{verdict}\n"),
@@ -72,7 +110,6 @@ impl<L: Written> Reply<L> {
                 format!(in heap; "{rows}\n")
             }
             Reply::Cleared => String::from_str(heap, "cleared\n"),
-            Reply::Unserved(trouble) => unserved(heap, line, trouble),
         }
     }
 }

@@ -15,7 +15,7 @@ all bytes now i e l k = let q : i ≡ length bytes / 8 = omega arith in e ∙ ap
 pub loop-i-preserved : goal.loop-i-preserved
 loop-i-preserved c = more c.args.bytes.now c.loop-i.bytes c.loop-i.i c.opposite.result c.loop-i.invariant c.opposite.ensures
 
-pub returns : goal.returns
-returns c =
+pub returns-clause-means : goal.returns-clause-means
+returns-clause-means c =
     let is = all c.args.bytes.now c.loop-i.bytes c.loop-i.i c.loop-i.invariant c.loop-i-test.false c.loop-i.auto.i-end in
-    record { is = is; means = subst (Mirrored c.args.bytes.now) (sym is) (mirror_mirrored c.args.bytes.now) }
+    subst (Mirrored c.args.bytes.now) (sym is) (mirror_mirrored c.args.bytes.now)

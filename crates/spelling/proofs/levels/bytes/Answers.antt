@@ -1,22 +1,21 @@
-use Rattle.std.proofs.Common.{◌+◌, ◌*◌, drop, vec_items, sym, ap, ◌∙◌, arith}
+use Rattle.std.proofs.Common.{vec_items, sym, ap, length, ◌∙◌, length-append, arith}
 use Rattle.spelling.specs.Texts.{hex_bytes}
-use Rattle.spelling.proofs.Spelled.{after, odd_none, reads_on, stuck, read_all}
+use Rattle.spelling.proofs.Spelled.{after, odd_none, reads_on}
 use Rattle.spelling.proofs.levels.bytes.Goals as goal
 
 pub returns-then-digits-eq1 : goal.returns-then-digits-eq1
 returns-then-digits-eq1 c = sym (odd_none c.args.digits.now c.if-digits-eq1.true)
 
-pub returns-in-None : goal.returns-in-None
-returns-in-None c =
-    sym (stuck c.args.digits.now (vec_items c.loop-i.bytes) c.loop-i.i (omega (arith, c.loop-i-test.true)) c.loop-i.invariant c.in-None.ensures)
-
-pub loop-i-preserved : goal.loop-i-preserved
-loop-i-preserved c =
-    let w = c.args.digits.now in
-    let i = c.loop-i.i in
-    reads_on w (vec_items c.loop-i.bytes) i (omega (arith, c.loop-i-test.true)) c.loop-i.invariant c.in-Some.byte c.in-Some.ensures
-    ∙ ap (λ t. after t (hex_bytes (drop (2 * (i + 1)) w))) (sym c.in_ok-push-in-Some.ensures.items)
-
-pub returns : goal.returns
-returns c =
-    sym (read_all c.args.digits.now (vec_items c.loop-i.bytes) c.loop-i.i (omega (arith, c.loop-i-test.false)) c.loop-i.invariant)
+pub loop-pair-preserved : goal.loop-pair-preserved
+loop-pair-preserved c =
+    let before = c.loop-pair.pair-iterator.rest.now in
+    let pair = c.in-Some.pair.now in
+    let rest = c.next.new.self.rest.now in
+    let s = c.in-Some.ensures.steps in
+    let so_far = c.loop-pair.invariant in
+    let long = s.1.1 ∙ so_far.0 in (
+      s.0 ∙ so_far.0,
+      omega (arith, so_far.1, ap length s.1.0, length-append pair rest, long),
+      reads_on c.args.digits.now (vec_items c.loop-pair.bytes) before pair rest s.1.0 long so_far.2 c.in-Some-byte.byte c.in-Some-byte.ensures
+          ∙ ap (λ t. after t (hex_bytes rest)) (sym c.in_ok-push-in-Some-byte.ensures.items),
+    )

@@ -1,6 +1,8 @@
-use Rattle.std.proofs.Common.{◌≡◌, take, string_bytes}
-use Rattle.spelling.specs.Texts.{rows_text}
+use Rattle.std.proofs.Common.{◌≡◌, max, string_bytes}
+use Rattle.spelling.proofs.Spelled.{Parted}
 use Rattle.spelling.proofs.levels.rows.Given as goal
 
 abbrev pub invariant-loop-i : goal.invariant-loop-i
-invariant-loop-i g l = string_bytes l.text ≡ rows_text g.L.Written.text l.width (take l.i l.levels)
+invariant-loop-i g l =
+    (l.i-iterator.iter.size ≡ max l.width 1)
+    × Parted g.L.Written.text l.width l.levels l.i-iterator.iter.rest.now l.i-iterator.count (string_bytes l.text)

@@ -1,20 +1,8 @@
 use Rattle.std.proofs.Common.{ap, arith}
 use Rattle.level.specs.declared.side.Side.TheVariants.{Low, High}
 use Rattle.recipe.specs.Steps.{form, reads_ranks, folding, filtering, selecting, bounding, averaging}
-use Rattle.steps.proofs.Stacking.{top_fits, scratch_fits, few_planes, frame_apart, scratch_apart, two_apart, started, negated_top, changed_top, merged_top}
+use Rattle.steps.proofs.Stacking.{top_fits, frame_apart, scratch_apart, two_apart, started, negated_top, changed_top, merged_top}
 use Rattle.steps.proofs.apply.apply_step.Goals as goal
-
-pub overflow_mul-top : goal.overflow_mul-top
-overflow_mul-top g c = let fits = top_fits c.places-n.ensures.value c.requires in omega arith
-
-pub overflow_add-scratch : goal.overflow_add-scratch
-overflow_add-scratch g c = let fits = few_planes c.places-n.ensures.value c.requires c.args.extent.columns c.args.extent.rows in omega arith
-
-pub overflow_mul-scratch : goal.overflow_mul-scratch
-overflow_mul-scratch g c = let fits = scratch_fits c.places-n.ensures.value c.requires in omega arith
-
-pub overflow_add-top : goal.overflow_add-top
-overflow_add-top g c = let fits = top_fits c.places-n.ensures.value c.requires in omega arith
 
 pub copy-requires : goal.copy-requires
 copy-requires g c = frame_apart c.places-n.ensures.value c.requires (ap form c.in-Frame.is)
@@ -22,17 +10,17 @@ copy-requires g c = frame_apart c.places-n.ensures.value c.requires (ap form c.i
 pub negate-requires : goal.negate-requires
 negate-requires g c = let fits = top_fits c.places-n.ensures.value c.requires in omega arith
 
-pub erode-requires : goal.erode-requires
-erode-requires g c = scratch_apart c.places-n.ensures.value c.requires
+pub fold-requires : goal.fold-requires
+fold-requires g c = scratch_apart c.places-n.ensures.value c.requires
 
-pub dilate-requires : goal.dilate-requires
-dilate-requires g c = scratch_apart c.places-n.ensures.value c.requires
+pub fold-requires-in-Dilate : goal.fold-requires-in-Dilate
+fold-requires-in-Dilate g c = scratch_apart c.places-n.ensures.value c.requires
 
-pub open-requires : goal.open-requires
-open-requires g c = scratch_apart c.places-n.ensures.value c.requires
+pub filter-requires : goal.filter-requires
+filter-requires g c = scratch_apart c.places-n.ensures.value c.requires
 
-pub close-requires : goal.close-requires
-close-requires g c = scratch_apart c.places-n.ensures.value c.requires
+pub filter-requires-in-Close : goal.filter-requires-in-Close
+filter-requires-in-Close g c = scratch_apart c.places-n.ensures.value c.requires
 
 pub select-requires : goal.select-requires
 select-requires g c = record {
@@ -72,19 +60,19 @@ returns-in-Negate g c = negated_top c.places-n.ensures.value c.requires (ap form
 
 pub returns-in-Erode : goal.returns-in-Erode
 returns-in-Erode g c =
-    changed_top c.places-n.ensures.value c.requires (folding Low c.in-Erode.element) (ap form c.in-Erode.is) c.erode.ensures
+    changed_top c.places-n.ensures.value c.requires (folding Low c.in-Erode.element) (ap form c.in-Erode.is) c.fold.ensures
 
 pub returns-in-Dilate : goal.returns-in-Dilate
 returns-in-Dilate g c =
-    changed_top c.places-n.ensures.value c.requires (folding High c.in-Dilate.element) (ap form c.in-Dilate.is) c.dilate.ensures
+    changed_top c.places-n.ensures.value c.requires (folding High c.in-Dilate.element) (ap form c.in-Dilate.is) c.fold-in-Dilate.ensures
 
 pub returns-in-Open : goal.returns-in-Open
 returns-in-Open g c =
-    changed_top c.places-n.ensures.value c.requires (filtering Low c.in-Open.element) (ap form c.in-Open.is) c.open.ensures
+    changed_top c.places-n.ensures.value c.requires (filtering Low c.in-Open.element) (ap form c.in-Open.is) c.filter.ensures
 
 pub returns-in-Close : goal.returns-in-Close
 returns-in-Close g c =
-    changed_top c.places-n.ensures.value c.requires (filtering High c.in-Close.element) (ap form c.in-Close.is) c.close.ensures
+    changed_top c.places-n.ensures.value c.requires (filtering High c.in-Close.element) (ap form c.in-Close.is) c.filter-in-Close.ensures
 
 pub returns-in-SelectLow : goal.returns-in-SelectLow
 returns-in-SelectLow g c =

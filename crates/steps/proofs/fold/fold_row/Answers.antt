@@ -1,4 +1,4 @@
-use Rattle.std.proofs.Common.{◌&&◌, length, sym, ◌∙◌, ap₂, arith, rules}
+use Rattle.std.proofs.Common.{◌&&◌, sym, ◌∙◌, ap₂, arith, rules}
 use Rattle.std.proofs.lemmas.Bool.{and_parts}
 use Rattle.steps.proofs.Folding.{row_there, upto_none, upto_skip, upto_more, upto_all}
 use Rattle.steps.proofs.fold.fold_row.Goals as goal
@@ -6,14 +6,6 @@ use Rattle.steps.proofs.fold.fold_row.Goals.{then-has-is_among, else-has-is_amon
 
 pub loop-b-init : goal.loop-b-init
 loop-b-init g c = upto_none _ _ c.start.ensures _ c.fill.ensures
-
-pub overflow_add-from : goal.overflow_add-from
-overflow_add-from g c =
-    omega (
-      arith,
-      row_there (length c.loop-b.block) c.args.from c.args.to c.args.extent.width c.args.extent.height _
-          (sym c.is_among.ensures ∙ (and_parts _ _ c.if-has-is_among.true).1) (search rules),
-    )
 
 pub bound_row-requires : goal.bound_row-requires
 bound_row-requires g c = record {

@@ -1,20 +1,9 @@
-use Rattle.std.proofs.Common.{inl, inr, ⊎_elim, arith}
+use Rattle.std.proofs.Common.{rules}
 use Rattle.steps.specs.Images.{bound}
 use Rattle.steps.specs.Planes.{size_of}
-use Rattle.steps.proofs.Written.{partly_none}
-use Rattle.steps.proofs.Merging.{merging_more, merging_all}
+use Rattle.steps.proofs.Merging.{merged_by}
 use Rattle.steps.proofs.planes.bound_planes.Goals as goal
-
-pub loop-i-init : goal.loop-i-init
-loop-i-init g c = partly_none
-
-pub loop-i-preserved : goal.loop-i-preserved
-loop-i-preserved g c =
-    merging_more g.L.Level.kind g.L.Level.meaning (bound g.L.Level.kind g.W.Way.side) c.args.lower c.args.upper _ _ _ _ _ _ _ c.loop-i.invariant (omega arith)
-    (record { first = omega arith; second = omega arith; apart = ⊎_elim (λ l. inl (omega arith)) (λ l. inr (omega arith)) c.requires.apart })
-    c.index-block-lower.is c.index-block-upper.is c.both.ensures
 
 pub returns : goal.returns
 returns g c =
-    merging_all g.L.Level.kind g.L.Level.meaning (bound g.L.Level.kind g.W.Way.side) c.args.lower c.args.upper _ _ (size_of c.args.extent) _ _
-    c.places-n.ensures.value (omega arith) c.loop-i.invariant
+    merged_by g.L.Level.kind g.L.Level.meaning (size_of c.args.extent) (bound g.L.Level.kind g.W.Way.side) (λ a b r did. search rules) c.merge_planes.ensures

@@ -1,6 +1,5 @@
-use Rattle.std.proofs.Common.{◌≡◌}
-use Rattle.steps.proofs.Written.{Partly}
+use Rattle.std.proofs.Common.{◌≡◌, ℕ, ◌<◌, get_or}
 use Rattle.steps.proofs.planes.fill.Given as goal
 
-abbrev pub invariant-loop-i : goal.invariant-loop-i
-invariant-loop-i g l = Partly (λ d k x. x ≡ l.level) l.at l.n l.initial.block l.i l.block
+abbrev pub invariant-loop-place : goal.invariant-loop-place
+invariant-loop-place g l = (k : ℕ) (d : _) → k < l.place-index → get_or l.place-items k d ≡ l.level

@@ -1,8 +1,10 @@
-use Rattle.std.proofs.Common.{◌≡◌, ◌+◌, get_or}
-use Rattle.steps.proofs.Written.{Partly}
+use Rattle.std.proofs.Common.{◌≡◌, ℕ, ◌<◌, ◌≤◌, get_or}
 use Rattle.steps.proofs.planes.negate.Given as goal
 
-abbrev pub invariant-loop-i : goal.invariant-loop-i
-invariant-loop-i g l =
+abbrev pub invariant-loop-level : goal.invariant-loop-level
+invariant-loop-level g l =
     let m = g.L.Level.meaning in
-    Partly (λ d k x. m x ≡ g.L.Level.kind.negation (m (get_or l.initial.block (l.at + k) d))) l.at l.n l.initial.block l.i l.block
+    record {
+      done : (k : ℕ) (d : _) → k < l.level-index → m (get_or l.level-items k d) ≡ g.L.Level.kind.negation (m (get_or l.initial.level-items k d));
+      rest : (k : ℕ) (d : _) → l.level-index ≤ k → get_or l.level-items k d ≡ get_or l.initial.level-items k d;
+    }

@@ -1,35 +1,27 @@
-use Rattle.std.proofs.Common.{◌≡◌, ◌/◌, ◌%◌, ap, ◌∙◌, ⊎_elim, arith}
+use Rattle.std.proofs.Common.{◌≡◌, ◌/◌, ◌%◌, sym, ap, ◌∙◌, subst, ap₂, arith}
 use lib.Arith.{digits_div, digits_mod}
-use Rattle.std.proofs.lemmas.Nat.{div_below, mod_below}
 use Rattle.recipe.specs.Elements.{offsets}
 use Rattle.steps.specs.Images.{Place}
 use Rattle.steps.specs.Selections.{selected}
-use Rattle.steps.specs.Planes.{size_of, places, index}
-use Rattle.steps.proofs.Written.{partly_none, partly_more, index_fits, holds_kept}
+use Rattle.steps.specs.Planes.{size_of, places, index, Holds}
+use Rattle.steps.proofs.Written.{partly_none, partly_more, index_fits, holds_kept, apart_out}
 use Rattle.steps.proofs.select.select_plane.Goals as goal
 
 pub loop-i-init : goal.loop-i-init
 loop-i-init g c = partly_none
-
-pub selected_at-requires : goal.selected_at-requires
-selected_at-requires g c = record {
-  ranked = c.requires.ranked;
-  plane = omega arith;
-  column = mod_below c.loop-i.i c.args.extent.width (omega arith);
-  row = div_below c.loop-i.i c.args.extent.width c.args.extent.height (omega arith) (omega arith);
-  turned = c.turned-turned.ensures.offsets;
-}
 
 pub loop-i-preserved : goal.loop-i-preserved
 loop-i-preserved g c =
     let K = g.L.Level.kind in
     let m = g.L.Level.meaning in
     let s = size_of c.args.extent in
-    let n : c.places-n.result ≡ places s = c.places-n.ensures.value in
+    let E = offsets c.args.element in
+    let C = g.R.Rule.criterion in
     partly_more _ _ _ c.loop-i.invariant (omega arith) (omega arith)
-    (λ d f held. c.selected_at.ensures f
-    (holds_kept K m s c.args.from c.args.to c.places-n.result _ _ f
-    (λ k h. ⊎_elim (λ l. omega arith) (λ l. omega arith) c.requires.planes.apart) c.loop-i.invariant.kept held))
+    (λ d f held.
+    let still = holds_kept K m s c.args.from c.args.to (places s) _ _ f (apart_out _ _ _ _ _ c.requires.planes) c.loop-i.invariant.kept held in
+    c.selected_at.ensures f (subst (λ s. Holds K m s c.loop-i.block c.args.from f) (sym c.at-place.ensures.extent) still)
+    ∙ ap₂ (λ s p. selected K s C c.args.side E f p) c.at-place.ensures.extent c.at-place.ensures.place)
 
 pub returns : goal.returns
 returns g c =

@@ -1,4 +1,4 @@
-use Rattle.std.proofs.Common.{map, Some, vec_items, sym, refl, ap, ◌∙◌, subst}
+use Rattle.std.proofs.Common.{map, Some, Ok, vec_items, sym, refl, ap, ◌∙◌, subst}
 use Rattle.std.specs.Option.{option_map}
 use Rattle.recipe.specs.Plans.{given, refused}
 use Rattle.cell.specs.Histories.{Lay}
@@ -19,5 +19,5 @@ pub returns : goal.returns
 returns g c = λ s h b.
     let spells = g.S.Pixel.Written.spells in
     let read = subst (Read (Spell spells) (words c.args.text.now)) (ap (option_map vec_items) c.in-Some.is ∙ ap Some (sym c.deref.ensures.value)) c.in_ok-frame.ensures in
-    let f = comes g.S.Pixel.Level.kind g.S.Pixel.Level.meaning g.S.Selector.Rule.criterion spells c.args.desk.now c.lay.new.self (Lay (map g.S.Pixel.Level.meaning c.deref.result.now)) (refused (cell_refusal c.in-Err.fault)) _ c.in-Err.ensures c.refused.ensures s h b in
+    let f = comes g.S.Pixel.Level.kind g.S.Pixel.Level.meaning g.S.Selector.Rule.criterion spells c.args.desk.now c.lay.new.self (Lay (map g.S.Pixel.Level.meaning c.deref.result.now)) (refused (cell_refusal c.in-Err.fault)) _ c.in-Err.ensures (ap Ok c.refused.ensures) s h b in
     (f.0, (Some c.deref.result.now, read, f.1), f.2)

@@ -1,7 +1,7 @@
-use Rattle.std.proofs.Common.{◌≡◌, vec_items, string_bytes}
+use Rattle.std.proofs.Common.{◌≡◌, ℕ, List, vec_items}
 use Rattle.cell.specs.Histories.{History, Setting}
 use Rattle.desk.specs.Desks.{After, Tidy}
-use Rattle.transcripts.specs.Transcripts.{Celled}
+use Rattle.transcripts.specs.Transcripts.{Celled, Served}
 use Rattle.transcripts.proofs.Lining.{SoFar}
 use Rattle.transcripts.proofs.serve.celled_lines.Given as goal
 
@@ -11,6 +11,7 @@ invariant-loop-i g l =
     let m = g.S.Pixel.Level.meaning in
     let C = g.S.Selector.Rule.criterion in
     Tidy K m C l.desk
+    × ((text : List ℕ) × g.T.Teller.tells l.initial.teller l.teller text
     × ((s : Setting) (h : History K.Level) → s.width ≡ l.width → After K m C l.initial.desk s h
     → (h' : History K.Level) × After K m C l.desk s h'
-    × SoFar (Celled K m C g.S.Pixel.Written.spells g.S.Pixel.Written.text s) vec_items l.lines h l.from h' l.i (string_bytes l.text))
+    × SoFar (Served g.T.Teller.misses (Celled K m C g.S.Pixel.Written.spells g.S.Pixel.Written.text s)) vec_items l.lines h l.from h' l.i text))

@@ -16,15 +16,15 @@ loop-b-preserved c =
     elim c.if-has.branch [
       | then-has w ↦
           let more = gather_taken max 0 E distance b (sym (w.if-has.ensures.0 c.loop-b-test.true)) in
-          (cc, omega arith)
+          (omega arith, omega arith)
       | else-has w ↦
           let more = gather_left max 0 E distance b (sym (w.if-has.ensures.0 c.loop-b-test.true)) in
-          (cc, omega arith)
+          (omega arith, omega arith)
     ]
 
-pub returns : goal.returns
-returns c =
+pub returns-clause-means : goal.returns-clause-means
+returns-clause-means c =
     let E = offsets c.args.self in
     let all : c.loop-b.b ≡ 25 = omega arith in
     let value = subst (λ b. c.loop-b.radius ≡ gather max 0 E distance b) all c.loop-b.invariant.0 in
-    record { value = value; means = subst (GreatestDistance E) (sym value) (radius_greatest E); small = c.loop-b.invariant.1 }
+    subst (GreatestDistance E) (sym value) (radius_greatest E)

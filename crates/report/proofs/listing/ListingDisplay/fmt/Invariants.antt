@@ -3,5 +3,5 @@ use Rattle.std.specs.Fmt.{IsPlainFormatter, HasWritten}
 use Rattle.report.specs.Texts.{lines_text}
 use Rattle.report.proofs.listing.ListingDisplay.fmt.Given as goal
 
-abbrev pub invariant-loop-i : goal.invariant-loop-i
-invariant-loop-i g l = IsPlainFormatter l.initial.f → HasWritten g.W.Write.write_str_gives l.initial.f (lines_text (take l.i l.self.lines)) l.f
+abbrev pub invariant-loop-line : goal.invariant-loop-line
+invariant-loop-line g l = IsPlainFormatter l.initial.f → HasWritten g.W.Write.write_str_gives l.initial.f (lines_text (take l.line-index l.line-items)) l.f

@@ -1,0 +1,36 @@
+// Answers printed as they come.
+ghost use Rattle.std.specs.Prelude.{◌≡◌};
+ghost use Rattle.transcripts.specs.declared.reply.Trouble.TheVariants.{NoMemory};
+ghost use Rattle.transcripts.specs.Texts.{unserved_text};
+
+use std::io;
+use transcripts::reply::Trouble;
+use transcripts::teller::Teller;
+
+// Prints what it is told.
+#[derive(Drop)]
+pub(crate) struct Printer<'a> {
+    pub(crate) rt: &'a HostRuntime,
+}
+
+// What is printed leaves no trace that a contract could speak of.
+impl Teller for Printer<'_> {
+    type Fault = io::Error;
+
+    ghost tells = { λ _ _ _. Unit {0} };
+
+    ghost misses = { λ line text. text ≡ unserved_text line NoMemory };
+
+    fn tell(&mut self, text: &str) -> io::Result<()> {
+        print!(self.rt; "{text}")
+    }
+
+    fn miss(&mut self, line: usize) -> io::Result<()> {
+        let trouble = Trouble::NoMemory;
+        println!(self.rt; "line {line}: {trouble}")
+    }
+
+    ghost joins = { λ _ _ _ _ _ _ _. tt };
+
+    ghost starts = { λ _. tt };
+}

@@ -1,6 +1,0 @@
-use Rattle.std.proofs.Common.{◌≡◌, take, string_bytes}
-use Rattle.script.specs.Texts.{row_text}
-use Rattle.script.proofs.levels.row.Given as goal
-
-abbrev pub invariant-loop-i : goal.invariant-loop-i
-invariant-loop-i g l = string_bytes l.text ≡ row_text g.L.Written.text (take l.i l.levels)

@@ -1,6 +1,0 @@
-use Rattle.std.proofs.Common.{arith}
-use Rattle.level.specs.Chain.{same_rank}
-use Rattle.sketch.proofs.depths.DepthLevel.least.Goals as goal
-
-pub returns : goal.returns
-returns c = same_rank _ _ (omega arith)

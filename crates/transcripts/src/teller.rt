@@ -1,0 +1,52 @@
+// Where the answers to a script's lines go.
+ghost use Rattle.std.specs.Prelude.{◌≡◌, ℕ, List, [], ◌++◌, OnOk, string_bytes};
+
+use std::alloc::AllocError;
+
+// Something that the answers to a script's lines are told to, in order.
+pub trait Teller {
+    type Fault: From<AllocError>;
+
+    // What telling a text makes of a teller.
+    ghost tells: { Self → Self → List ℕ → Type 0 };
+
+    // What is told in place of a line that there is no memory for.
+    ghost misses: { ℕ → List ℕ → Type 0 };
+
+    // Tells a text.
+    fn tell(&mut self, text: &str) -> Result<(), Self::Fault>
+        ensures { OnOk result (tells self.old self.new text.now) };
+
+    // Tells that there is no memory for a line.
+    fn miss(&mut self, line: usize) -> Result<(), Self::Fault>
+        ensures { OnOk result ((text : List ℕ) × misses line text × tells self.old self.new text) };
+
+    // Two texts told one after the other are one.
+    ghost joins: { (x y z : Self) (first second : List ℕ) → tells x y first → tells y z second → tells x z (first ++ second) };
+
+    // Nothing told is the empty text.
+    ghost starts: { (x : Self) → tells x x [] };
+}
+
+// A text grows by what it is told; where there is no memory for a line, nothing takes the line's place.
+impl Teller for String {
+    ghost use Rattle.transcripts.specs.Telling.{appended, unchanged};
+
+    type Fault = AllocError;
+
+    ghost tells = { λ x y text. string_bytes y ≡ string_bytes x ++ text };
+
+    ghost misses = { λ _ _. ⊥ };
+
+    fn tell(&mut self, text: &str) -> Result<(), AllocError> {
+        self.push_str(text)
+    }
+
+    fn miss(&mut self, _line: usize) -> Result<(), AllocError> {
+        Err(AllocError)
+    }
+
+    ghost joins = { λ x y z first second a b. appended (string_bytes x) (string_bytes y) (string_bytes z) first second a b };
+
+    ghost starts = { λ x. unchanged (string_bytes x) };
+}
