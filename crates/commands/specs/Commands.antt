@@ -1,7 +1,7 @@
 -- What a script's lines ask for.
 use Rattle.std.specs.Prelude.{◌≡◌, ℕ, List, length, Ok, Err, codes, MatchBool, Result, ◌==◌, slice_index}
 use Rattle.spelling.specs.Spellings.{Decimal}
-use Rattle.spelling.specs.Words.{front, further, trimmed}
+use Rattle.spelling.specs.Words.{Cut, trimmed}
 use Rattle.commands.specs.declared.command.CallName.{CallName}
 use Rattle.commands.specs.declared.command.CallName.TheVariants.{Cell as CellCall, Admit as AdmitCall, Lay as LayCall, Step as StepCall, Take as TakeCall, Clear as ClearCall}
 use Rattle.commands.specs.declared.command.Command.{Command}
@@ -100,36 +100,38 @@ abbrev pub asked_by : {E : Type 0} → Result Command E → Result Asked E
 asked_by (Ok command) = Ok (asked command)
 asked_by (Err e) = Err e
 
--- a cell by the words after `cell`: kind, rule, width, height, and the rest for the levels of its block
-abbrev pub AsksCell : List ℕ → Result Making Unread → Type 0
-AsksCell text =
-    Then (Names kind_name NoSuchKind (front text)) (λ kind.
-    Then (Names rule_name NoSuchRule (front (further text))) (λ rule.
-    Then (Counts (front (further (further text)))) (λ width.
-    Then (Counts (front (further (further (further text))))) (λ height.
-    Then (Counts (further (further (further (further text))))) (λ levels r.
-    r ≡ Ok (record { kind = kind; rule = rule; width = width; height = height; levels = levels }))))))
+-- what words ask for that part by this cut
+module _ (cut : Cut) where
+  -- a cell by the words after `cell`: kind, rule, width, height, and the rest for the levels of its block
+  abbrev pub AsksCell : List ℕ → Result Making Unread → Type 0
+  AsksCell text =
+      Then (Names kind_name NoSuchKind (cut.front text)) (λ kind.
+      Then (Names rule_name NoSuchRule (cut.front (cut.further text))) (λ rule.
+      Then (Counts (cut.front (cut.further (cut.further text)))) (λ width.
+      Then (Counts (cut.front (cut.further (cut.further (cut.further text))))) (λ height.
+      Then (Counts (cut.further (cut.further (cut.further (cut.further text))))) (λ levels r.
+      r ≡ Ok (record { kind = kind; rule = rule; width = width; height = height; levels = levels }))))))
 
--- a call by the text after its name
-abbrev pub AsksCall : CallName → List ℕ → Result Asked Unread → Type 0
-AsksCall CellCall text = Then (AsksCell text) (λ making r. r ≡ Ok (cell making))
-AsksCall AdmitCall text = λ r. r ≡ Ok (put (admit text))
-AsksCall LayCall text = λ r. r ≡ Ok (put (lay text))
-AsksCall StepCall text = Then (Counts text) (λ count r. r ≡ Ok (put (step count)))
-AsksCall TakeCall text = Then (Counts text) (λ length r. r ≡ Ok (put (take length)))
-AsksCall ClearCall text = λ r. MatchBool (length text == 0) (r ≡ Ok (put clear)) (r ≡ Err WordTooMany)
+  -- a call by the text after its name
+  abbrev pub AsksCall : CallName → List ℕ → Result Asked Unread → Type 0
+  AsksCall CellCall text = Then (AsksCell text) (λ making r. r ≡ Ok (cell making))
+  AsksCall AdmitCall text = λ r. r ≡ Ok (put (admit text))
+  AsksCall LayCall text = λ r. r ≡ Ok (put (lay text))
+  AsksCall StepCall text = Then (Counts text) (λ count r. r ≡ Ok (put (step count)))
+  AsksCall TakeCall text = Then (Counts text) (λ length r. r ≡ Ok (put (take length)))
+  AsksCall ClearCall text = λ r. MatchBool (length text == 0) (r ≡ Ok (put clear)) (r ≡ Err WordTooMany)
 
--- a call by its name, which is the first word, and the text after it
-abbrev pub AsksNamed : List ℕ → Result Asked Unread → Type 0
-AsksNamed text = Then (Names name_of_call NoSuchCall (front text)) (λ call. AsksCall call (further text))
+  -- a call by its name, which is the first word, and the text after it
+  abbrev pub AsksNamed : List ℕ → Result Asked Unread → Type 0
+  AsksNamed text = Then (Names name_of_call NoSuchCall (cut.front text)) (λ call. AsksCall call (cut.further text))
 
--- a line with white space at its ends let go: nothing, a note after #, or a call
-abbrev pub AsksTrimmed : List ℕ → Result Asked Unread → Type 0
-AsksTrimmed text r =
-    MatchBool (length text == 0) (r ≡ Ok nothing)
-    (MatchBool (slice_index text 0 == 35) (r ≡ Ok (note text))
-    (AsksNamed text r))
+  -- a line with white space at its ends let go: nothing, a note after #, or a call
+  abbrev pub AsksTrimmed : List ℕ → Result Asked Unread → Type 0
+  AsksTrimmed text r =
+      MatchBool (length text == 0) (r ≡ Ok nothing)
+      (MatchBool (slice_index text 0 == 35) (r ≡ Ok (note text))
+      (AsksNamed text r))
 
--- what a line asks for
-abbrev pub Asks : List ℕ → Result Asked Unread → Type 0
-Asks line = AsksTrimmed (trimmed line)
+  -- what a line asks for
+  abbrev pub Asks : List ℕ → Result Asked Unread → Type 0
+  Asks line = AsksTrimmed (trimmed line)

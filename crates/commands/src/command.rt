@@ -4,6 +4,7 @@ ghost use Rattle.commands.specs.declared.command.Unread.TheVariants.{NoSuchCall,
 ghost use Rattle.commands.specs.Commands.{Asks, AsksCall, AsksCell, AsksNamed, Counts, Names, asked_by, name_of_call, kind_name, rule_name, unread_text};
 
 use spelling::words;
+use spelling::words::Parting;
 use std::error::Error;
 use std::fmt;
 use std::num::ParseIntError;
@@ -144,13 +145,13 @@ pub fn number(word: &str) -> Result<usize, Unread>
 }
 
 // What a `cell` line asks for after its first word.
-fn cell_asked(text: &str) -> Result<Making, Unread>
-    ensures { AsksCell text.now result }
+fn cell_asked<P: Parting>(text: &str) -> Result<Making, Unread>
+    ensures { AsksCell P.cut text.now result }
 {
-    let (kind, text) = words::parted(text);
-    let (rule, text) = words::parted(text);
-    let (width, text) = words::parted(text);
-    let (height, levels) = words::parted(text);
+    let (kind, text) = P::parted(text);
+    let (rule, text) = P::parted(text);
+    let (width, text) = P::parted(text);
+    let (height, levels) = P::parted(text);
     Ok(Making {
         kind: kind.parse()?,
         rule: rule.parse()?,
@@ -161,11 +162,11 @@ fn cell_asked(text: &str) -> Result<Making, Unread>
 }
 
 // What a name asks for with the text after it.
-fn called(name: CallName, text: &str) -> Result<Command<'_>, Unread>
-    ensures { AsksCall name text.now (asked_by result) }
+fn called<P: Parting>(name: CallName, text: &str) -> Result<Command<'_>, Unread>
+    ensures { AsksCall P.cut name text.now (asked_by result) }
 {
     match name {
-        CallName::Cell => Ok(Command::Cell(cell_asked(text)?)),
+        CallName::Cell => Ok(Command::Cell(cell_asked::<P>(text)?)),
         CallName::Admit => Ok(Command::Put(Call::Admit(text))),
         CallName::Lay => Ok(Command::Put(Call::Lay(text))),
         CallName::Step => Ok(Command::Put(Call::Step(number(text)?))),
@@ -181,16 +182,16 @@ fn called(name: CallName, text: &str) -> Result<Command<'_>, Unread>
 }
 
 // What a text asks for by its first word.
-fn named(text: &str) -> Result<Command<'_>, Unread>
-    ensures { AsksNamed text.now (asked_by result) }
+fn named<P: Parting>(text: &str) -> Result<Command<'_>, Unread>
+    ensures { AsksNamed P.cut text.now (asked_by result) }
 {
-    let (word, rest) = words::parted(text);
-    called(word.parse()?, rest)
+    let (word, rest) = P::parted(text);
+    called::<P>(word.parse()?, rest)
 }
 
-// What a line asks for.
-pub fn read(line: &str) -> Result<Command<'_>, Unread>
-    ensures { Asks line.now (asked_by result) }
+// What a line asks for, whose words part this way.
+pub fn read<P: Parting>(line: &str) -> Result<Command<'_>, Unread>
+    ensures { Asks P.cut line.now (asked_by result) }
 {
     let line = words::trimmed(line);
     if line.is_empty() {
@@ -199,7 +200,7 @@ pub fn read(line: &str) -> Result<Command<'_>, Unread>
     if line.starts_with('#') {
         return Ok(Command::Note(line));
     }
-    named(line)
+    named::<P>(line)
 }
 
 impl Unread {

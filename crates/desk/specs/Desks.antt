@@ -1,5 +1,5 @@
 -- A cell with the slip of its open run.
-use Rattle.std.specs.Prelude.{◌≡◌, Bool, List, ◌∷◌, is_some, Ok, Err, Result}
+use Rattle.std.specs.Prelude.{◌≡◌, Bool, false, List, ◌∷◌, is_some, Ok, Err, Result}
 use Rattle.level.specs.Kind.{Kind}
 use Rattle.rule.specs.Criterion.{Criterion}
 use Rattle.recipe.specs.Plans.{Answer, given, refused}
@@ -41,3 +41,8 @@ plain_answer (Err e) = refused (cell_refusal e)
 abbrev pub image_answer : {L : Type 0} → Result (Unit {0}) CellFault → List L → Answer (List L)
 image_answer (Ok u) out = given out
 image_answer (Err e) out = refused (cell_refusal e)
+
+-- what is told of a call's answer, and whether a slip is at hand afterwards
+abbrev pub Told : {S : Type 0} → Result (Unit {0}) (CellFault × S) → Result (Unit {0}) CellFault → Bool → Bool → Type 0
+Told (Ok u) told before after = (told ≡ Ok tt) × (after ≡ false)
+Told (Err e) told before after = (told ≡ Err e.0) × (after ≡ before)

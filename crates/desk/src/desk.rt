@@ -1,8 +1,8 @@
 // A cell with the slip of its open run: calls can be put to it in any order, and no slip is lost.
-ghost use Rattle.std.specs.Prelude.{◌≡◌, [], map, length, Some, None, Ok, Err, IsOk, IfErr};
+ghost use Rattle.std.specs.Prelude.{◌≡◌, [], map, length, is_some, None, IsErr};
 ghost use Rattle.cell.specs.Histories.{Admit, Lay, Steps, Take, Clear, setting};
 ghost use Rattle.cell.specs.Cells.{admit_answer, step_answer};
-ghost use Rattle.desk.specs.Desks.{After, ComesAbout, Tidy, plain_answer, image_answer};
+ghost use Rattle.desk.specs.Desks.{After, ComesAbout, Tidy, Told, plain_answer, image_answer};
 
 use crate::spare;
 use crate::spare::Spare;
@@ -41,13 +41,11 @@ impl<'a, S: Setup> Desk<'a, S> {
         requires { Tidy S.Pixel.Level.kind S.Pixel.Level.meaning S.Selector.Rule.criterion self.old }
         ensures { ComesAbout S.Pixel.Level.kind S.Pixel.Level.meaning S.Selector.Rule.criterion self.old self.new (Lay (map S.Pixel.Level.meaning frame.now)) (plain_answer result) }
     {
-        match self.cell.lay(frame) {
-            Err(fault) => Err(fault),
-            Ok(slip) => match self.slip.replace(slip) {
-                None => Ok(()),
-                // While a run is open no frame is laid.
-                Some(_slip) => unreachable(),
-            },
+        let slip = self.cell.lay(frame)?;
+        match self.slip.replace(slip) {
+            None => Ok(()),
+            // While a run is open no frame is laid.
+            Some(_slip) => unreachable(),
         }
     }
 
@@ -64,17 +62,7 @@ impl<'a, S: Setup> Desk<'a, S> {
         requires { Tidy S.Pixel.Level.kind S.Pixel.Level.meaning S.Selector.Rule.criterion self.old }
         ensures { ComesAbout S.Pixel.Level.kind S.Pixel.Level.meaning S.Selector.Rule.criterion self.old self.new (Take (length out.old)) (image_answer result (map S.Pixel.Level.meaning out.new)) }
     {
-        match self.slip.take() {
-            Some(slip) => {
-                let answer = self.cell.take(slip, out);
-                self.kept(answer)
-            }
-            None => {
-                let mut block = [false; 3];
-                let Spare { mut cell, slip } = spare::lay(&mut block);
-                spare::refused(&mut cell, self.cell.take(slip, out))
-            }
-        }
+        self.with_slip(&mut |cell, slip| cell.take(slip, out))
     }
 
     // Clears the run; where no slip is at hand, with one of a second cell.
@@ -82,27 +70,24 @@ impl<'a, S: Setup> Desk<'a, S> {
         requires { Tidy S.Pixel.Level.kind S.Pixel.Level.meaning S.Selector.Rule.criterion self.old }
         ensures { ComesAbout S.Pixel.Level.kind S.Pixel.Level.meaning S.Selector.Rule.criterion self.old self.new Clear (plain_answer result) }
     {
-        match self.slip.take() {
-            Some(slip) => {
-                let answer = self.cell.clear(slip);
-                self.kept(answer)
-            }
-            None => {
-                let mut block = [false; 3];
-                let Spare { mut cell, slip } = spare::lay(&mut block);
-                spare::refused(&mut cell, self.cell.clear(slip))
-            }
-        }
+        self.with_slip(&mut |cell, slip| cell.clear(slip))
     }
 
-    // Keeps the slip that a refused call hands back.
-    fn kept(&mut self, answer: Result<(), (CellFault, Slip)>) -> Result<(), CellFault>
-        requires { self.old.slip ≡ None }
-        ensures cell { self.new.cell ≡ self.old.cell }
-        ensures ok { IsOk answer → (result ≡ Ok tt) × (self.new.slip ≡ None) }
-        ensures err { IfErr answer (λ e. (result ≡ Err e.0) × (self.new.slip ≡ Some e.1)) }
+    // Makes a call with the slip of the open run; where none is open, with one of a second cell.
+    fn with_slip<F: FnMut(&mut Cell<'a, S>, Slip) -> Result<(), (CellFault, Slip)>>(
+        &mut self,
+        call: &mut F,
+    ) -> Result<(), CellFault>
+        requires callable { (c : _) (s : _) → F.pre call.old c s }
+        requires refused { (self.old.slip ≡ None) → (c : _) (s : _) (r : _) (d : _) (f : F) → c.now ≡ self.old.cell → F.step call.old c s r d f → IsErr r }
+        ensures { (c : _) × (s : _) × (r : _) × (d : _) × (c.now ≡ self.old.cell) × (d.now ≡ self.new.cell) × F.step call.old c s r d call.new × Told r result (is_some self.old.slip) (is_some self.new.slip) }
     {
-        match answer {
+        let Some(slip) = self.slip.take() else {
+            let mut block = [false; 3];
+            let Spare { mut cell, slip } = spare::lay(&mut block);
+            return spare::refused(&mut cell, call(&mut self.cell, slip));
+        };
+        match call(&mut self.cell, slip) {
             Ok(()) => Ok(()),
             Err((fault, slip)) => {
                 self.slip = Some(slip);

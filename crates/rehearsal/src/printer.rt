@@ -1,8 +1,10 @@
 // Answers printed as they come.
-ghost use Rattle.std.specs.Prelude.{◌≡◌};
+ghost use Rattle.std.specs.Prelude.{◌≡◌, alloc_error};
 ghost use Rattle.transcripts.specs.declared.reply.Trouble.TheVariants.{NoMemory};
 ghost use Rattle.transcripts.specs.Texts.{unserved_text};
 
+use spelling::words::Spaces;
+use std::alloc::AllocError;
 use std::io;
 use transcripts::reply::Trouble;
 use transcripts::teller::Teller;
@@ -17,16 +19,19 @@ pub(crate) struct Printer<'a> {
 impl Teller for Printer<'_> {
     type Fault = io::Error;
 
+    // Spaces alone part words: a tab is part of one.
+    type Words = Spaces;
+
     ghost tells = { λ _ _ _. Unit {0} };
 
-    ghost misses = { λ line text. text ≡ unserved_text line NoMemory };
+    ghost misses = { λ line text. text ≡ unserved_text line (NoMemory alloc_error) };
 
     fn tell(&mut self, text: &str) -> io::Result<()> {
         print!(self.rt; "{text}")
     }
 
-    fn miss(&mut self, line: usize) -> io::Result<()> {
-        let trouble = Trouble::NoMemory;
+    fn miss(&mut self, line: usize, want: AllocError) -> io::Result<()> {
+        let trouble = Trouble::NoMemory(want);
         println!(self.rt; "line {line}: {trouble}")
     }
 

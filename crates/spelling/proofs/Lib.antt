@@ -1,3 +1,4 @@
 mod Spelled
+mod Shown
 mod Parting
 mod Reading

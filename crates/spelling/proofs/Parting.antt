@@ -1,11 +1,13 @@
 -- Words as they are found step by step.
-use Rattle.std.proofs.Common.{◌≡◌, ℕ, zero, suc, ◌+◌, ◌-◌, ◌<◌, ◌≤◌, Bool, true, false, cond, List, [], ◌∷◌, length, get_or, take, drop, sym, refl, ap, ◌∙◌, subst, arith, length-take}
+use Rattle.std.proofs.Common.{◌≡◌, ℕ, zero, suc, ◌+◌, ◌-◌, ◌<◌, ◌≤◌, true, false, cond, List, [], ◌∷◌, length, get_or, take, drop, Some, None, Option, MatchOption, sym, refl, ap, ◌∙◌, subst, arith, length-take}
 use Rattle.std.proofs.lemmas.Bool.Decides.{nat_tests}
 use Rattle.std.specs.Char.{is_ascii_whitespace}
-use Rattle.spelling.specs.Words.{unpadded, closing, unended, trimmed, front, behind, WordEnds, begun, lengthened, words}
+use Rattle.std.specs.List.{AllWithin, HoldsAt}
+use Rattle.std.specs.Option.{unwrap_or}
+use Rattle.spelling.specs.Words.{unpadded, closing, unended, trimmed, front, behind, WordEnds}
 
 -- white space is ASCII
-small : (c : ℕ) → is_ascii_whitespace c ≡ true → 128 ≤ c → ⊥
+pub small : (c : ℕ) → is_ascii_whitespace c ≡ true → 128 ≤ c → ⊥
 small c white wide = grind (arith, nat_tests)
 
 -- white space at each of the first places, and none at the next
@@ -59,6 +61,11 @@ word_ends n t within before here = record {
   boundary = (within, λ l wide. absurd (small _ (here l) wide));
 }
 
+-- the first white space is where the first word ends, or else the end of the text
+pub word_found : (t : List ℕ) (r : Option ℕ) → MatchOption r (AllWithin (λ b. is_ascii_whitespace b ≡ false) t 0 (length t)) (λ i. (i < length t) × HoldsAt (λ b. is_ascii_whitespace b ≡ true) t i × AllWithin (λ b. is_ascii_whitespace b ≡ false) t 0 i) → WordEnds t (unwrap_or r (length t))
+word_found t None none = word_ends (length t) t (omega arith) (λ k l. none k 0 (omega arith) l) (λ l. absurd (omega arith))
+word_found t (Some i) (inside, here, before) = word_ends i t (omega arith) (λ k l. before k 0 (omega arith) l) (λ l. here 0)
+
 -- what `trim_ascii_start` gives
 pub unpadded_from : (t r : List ℕ) → ((n : ℕ) × (r ≡ drop n t) × (length r + n ≡ length t) × ((i : ℕ) → i < n → is_ascii_whitespace (get_or t i 0) ≡ true) × (n < length t → is_ascii_whitespace (get_or t n 0) ≡ false)) → r ≡ unpadded t
 unpadded_from t r (n, is, long, before, here) = is ∙ unpadded_at n t before here
@@ -67,24 +74,3 @@ unpadded_from t r (n, is, long, before, here) = is ∙ unpadded_at n t before he
 pub trimmed_at : (t r : List ℕ) → ((m : ℕ) × (r ≡ take (length r) (drop m t)) × ((i : ℕ) → i < m → is_ascii_whitespace (get_or t i 0) ≡ true) × (m < length t → is_ascii_whitespace (get_or t m 0) ≡ false) × ((i : ℕ) → length r ≤ i → i < length (drop m t) → is_ascii_whitespace (get_or (drop m t) i 0) ≡ true) × (0 < length r → is_ascii_whitespace (get_or (drop m t) (length r - 1) 0) ≡ false)) → r ≡ trimmed t
 trimmed_at t r (m, is, before, here, after, last) =
     is ∙ unended_at (length r) (drop m t) (omega (arith, ap length is, length-take (length r) (drop m t))) after (λ k e. subst (λ n. is_ascii_whitespace (get_or (drop m t) n 0) ≡ false) (omega arith) (last (omega arith))) ∙ ap unended (unpadded_at m t before here)
-
-module _ (b : ℕ) (bs : List ℕ) where
-  unpadded_by : (w : Bool) → is_ascii_whitespace b ≡ w → words (unpadded bs) ≡ words bs → words (cond w (unpadded bs) (b ∷ bs)) ≡ cond w (words bs) (begun b bs (words bs))
-  unpadded_by true e more = more
-  unpadded_by false e more = ap (λ w. cond w (words bs) (begun b bs (words bs))) e
-
--- white space in front is no part of a word
-pub words_unpadded : (t : List ℕ) → words (unpadded t) ≡ words t
-words_unpadded [] = refl
-words_unpadded (b ∷ bs) = unpadded_by b bs (is_ascii_whitespace b) refl (words_unpadded bs)
-
-module _ (b c : ℕ) (cs : List ℕ) where
-  parted_by : (w : Bool) → is_ascii_whitespace c ≡ w → (is_ascii_whitespace c ≡ false → words (c ∷ cs) ≡ (c ∷ front cs) ∷ words (behind cs)) → cond w ((b ∷ []) ∷ words (c ∷ cs)) (lengthened b (words (c ∷ cs))) ≡ (b ∷ cond w [] (c ∷ front cs)) ∷ words (cond w (c ∷ cs) (behind cs))
-  parted_by true e more = refl
-  parted_by false e more = ap (lengthened b) (more e)
-
--- a text that begins with a word: that word, and the words behind it
-pub words_parted : (b : ℕ) (bs : List ℕ) → is_ascii_whitespace b ≡ false → words (b ∷ bs) ≡ (b ∷ front bs) ∷ words (behind bs)
-words_parted b [] dark = ap (λ w. cond w [] ((b ∷ []) ∷ [])) dark
-words_parted b (c ∷ cs) dark =
-    ap (λ w. cond w (words (c ∷ cs)) (begun b (c ∷ cs) (words (c ∷ cs)))) dark ∙ parted_by b c cs (is_ascii_whitespace c) refl (words_parted c cs)

@@ -1,62 +1,55 @@
 -- Levels as they are read word by word.
-use Rattle.std.proofs.Common.{◌≡◌, ℕ, ◌+◌, ◌<◌, ◌≤◌, Bool, true, false, cond, eqb, List, [], ◌∷◌, ◌++◌, length, get_or, sym, refl, ap, ◌∙◌, subst, append_assoc, arith, eqb-true}
-use borrow.Author.Tests.{clash}
+use Rattle.std.proofs.Common.{◌≡◌, ℕ, suc, ◌<◌, Bool, true, false, cond, List, [], ◌∷◌, ◌++◌, length, get_or, Some, Bor, sym, refl, ap, ◌∙◌, subst, append_assoc, arith}
 use Rattle.std.proofs.lemmas.List.{append-nil}
+use Rattle.std.proofs.lemmas.Str.{NoCharPasses-byte}
 use Rattle.std.specs.Char.{is_ascii_whitespace}
+use Rattle.std.specs.List.{AllPass}
+use Rattle.std.specs.Str.Iter.{CutsAsciiWord, IsAsciiSeparator}
 use Rattle.spelling.specs.Spellings.{Spell}
-use Rattle.spelling.specs.Words.{unpadded, front, behind, further, words}
-use Rattle.spelling.proofs.Parting.{words_parted, words_unpadded}
+use Rattle.spelling.specs.Words.{begun, lengthened, words}
+use Rattle.spelling.proofs.Parting.{small}
 
--- what `is_empty` tells
-pub some_left : (t : List ℕ) (b : Bool) → b ≡ eqb (length t) 0 → b ≡ false → 0 < length t
-some_left [] b is e = absurd (clash (sym e ∙ is))
-some_left (c ∷ cs) b is e = omega arith
+-- white space in front is no part of a word
+words_gap : (gap text : List ℕ) → AllPass is_ascii_whitespace gap → words (gap ++ text) ≡ words text
+words_gap [] text white = refl
+words_gap (b ∷ bs) text white =
+    ap (λ w. cond w (words (bs ++ text)) (begun b (bs ++ text) (words (bs ++ text)))) (white 0 0 (omega arith))
+    ∙ words_gap bs text (λ k d l. white (suc k) d (omega arith))
 
-pub none_left : (t : List ℕ) (b : Bool) → b ≡ eqb (length t) 0 → b ≡ true → t ≡ []
-none_left [] b is e = refl
-none_left (c ∷ cs) b is e = let z : length (c ∷ cs) ≡ 0 = eqb-true _ _ (sym is ∙ e) in absurd (omega arith)
+-- a text of white space has no words
+pub words_none : (text : List ℕ) → AllPass is_ascii_whitespace text → words text ≡ []
+words_none text white = ap words (sym (append-nil text)) ∙ words_gap text [] white
 
--- a text that is empty or begins with a word
-abbrev Begins : List ℕ → Type 0
-Begins t = 0 < length t → is_ascii_whitespace (get_or t 0 0) ≡ false
+-- a text that is empty or begins with white space
+abbrev Apart : List ℕ → Type 0
+Apart text = 0 < length text → is_ascii_whitespace (get_or text 0 0) ≡ true
 
-module _ (b : ℕ) (bs : List ℕ) where
-  begins_by : (w : Bool) → is_ascii_whitespace b ≡ w → Begins (unpadded bs) → Begins (cond w (unpadded bs) (b ∷ bs))
-  begins_by true e more = more
-  begins_by false e more = λ l. e
+-- a word up to white space or the end of the text
+words_word : (word text : List ℕ) → 0 < length word → ((k : ℕ) → k < length word → is_ascii_whitespace (get_or word k 0) ≡ false) → Apart text → words (word ++ text) ≡ word ∷ words text
+words_word [] text some dark apart = absurd (omega arith)
+words_word (b ∷ []) [] some dark apart = ap (λ w. cond w [] ((b ∷ []) ∷ [])) (dark 0 (omega arith))
+words_word (b ∷ []) (c ∷ cs) some dark apart =
+    ap (λ w. cond w (words (c ∷ cs)) (begun b (c ∷ cs) (words (c ∷ cs)))) (dark 0 (omega arith))
+    ∙ ap (λ w. cond w ((b ∷ []) ∷ words (c ∷ cs)) (lengthened b (words (c ∷ cs)))) (apart (omega arith))
+words_word (b ∷ a ∷ cs) text some dark apart =
+    ap (λ w. cond w (words (a ∷ (cs ++ text))) (begun b (a ∷ (cs ++ text)) (words (a ∷ (cs ++ text))))) (dark 0 (omega arith))
+    ∙ ap (λ w. cond w ((b ∷ []) ∷ words (a ∷ (cs ++ text))) (lengthened b (words (a ∷ (cs ++ text))))) (dark 1 (omega arith))
+    ∙ ap (lengthened b) (words_word (a ∷ cs) text (omega arith) (λ k l. dark (suc k) (omega arith)) apart)
 
-  shorter_by : (w : Bool) → length (unpadded bs) ≤ length bs → length (cond w (unpadded bs) (b ∷ bs)) ≤ length bs + 1
-  shorter_by true more = omega arith
-  shorter_by false more = omega arith
+dark_by : (b : ℕ) (w : Bool) → is_ascii_whitespace b ≡ w → (b < 128 → is_ascii_whitespace b ≡ false) → is_ascii_whitespace b ≡ false
+dark_by b true e low = low (omega (arith, small b e))
+dark_by b false e low = e
 
-  behind_by : (w : Bool) → length (behind bs) ≤ length bs → length (cond w (b ∷ bs) (behind bs)) ≤ length bs + 1
-  behind_by true more = omega arith
-  behind_by false more = omega arith
+apart_by : (sep rest : List ℕ) → IsAsciiSeparator sep rest → Apart (sep ++ rest)
+apart_by [] rest parts = λ l. absurd (omega (arith, parts.2 refl))
+apart_by (c ∷ cs) rest parts = λ l. parts.0 0 0 (omega arith)
 
-unpadded_begins : (t : List ℕ) → Begins (unpadded t)
-unpadded_begins [] = λ l. absurd (omega arith)
-unpadded_begins (b ∷ bs) = begins_by b bs (is_ascii_whitespace b) refl (unpadded_begins bs)
-
-unpadded_short : (t : List ℕ) → length (unpadded t) ≤ length t
-unpadded_short [] = omega arith
-unpadded_short (b ∷ bs) = omega (arith, shorter_by b bs (is_ascii_whitespace b) (unpadded_short bs))
-
-behind_short : (t : List ℕ) → length (behind t) ≤ length t
-behind_short [] = omega arith
-behind_short (b ∷ bs) = omega (arith, behind_by b bs (is_ascii_whitespace b) (behind_short bs))
-
-words_begun : (t : List ℕ) → 0 < length t → Begins t → words t ≡ front t ∷ words (further t)
-words_begun [] l dark = absurd (omega arith)
-words_begun (b ∷ bs) l dark =
-    words_parted b bs (dark l) ∙ ap (λ ws. (b ∷ front bs) ∷ ws) (sym (words_unpadded (behind bs)))
-    ∙ ap (λ w. cond w [] (b ∷ front bs) ∷ words (unpadded (cond w (b ∷ bs) (behind bs)))) (sym (dark l))
-
--- what stands after a word is shorter
-pub further_shorter : (t : List ℕ) → 0 < length t → Begins t → length (further t) < length t
-further_shorter [] l dark = absurd (omega arith)
-further_shorter (b ∷ bs) l dark =
-    subst (λ w. length (unpadded (cond w (b ∷ bs) (behind bs))) < length (b ∷ bs)) (sym (dark l))
-    (omega (arith, unpadded_short (behind bs), behind_short bs))
+-- the word that is cut off the front of a text is its first
+pub words_cut : (text : List ℕ) (word : Bor (List ℕ)) (rest : List ℕ) → CutsAsciiWord text (Some word) rest (λ gap x sep. gap ++ (x ++ (sep ++ rest))) → words text ≡ word.now ∷ words rest
+words_cut text word rest (some, dark, short, (gap, sep, is, white, parts)) =
+    ap words is ∙ words_gap gap (word.now ++ (sep ++ rest)) white
+    ∙ words_word word.now (sep ++ rest) some (λ k l. dark_by (get_or word.now k 0) _ refl (NoCharPasses-byte is_ascii_whitespace word.now k dark l)) (apart_by sep rest parts)
+    ∙ ap (λ ws. word.now ∷ ws) (words_gap sep rest parts.0)
 
 module _ {L : Type 0} (spells : List ℕ → L → Type 0) where
   spell_more : (passed : List (List ℕ)) (xs : List L) (word : List ℕ) (x : L) → Spell spells passed xs → spells word x → Spell spells (passed ++ word ∷ []) (xs ++ x ∷ [])
@@ -76,27 +69,25 @@ module _ {L : Type 0} (spells : List ℕ → L → Type 0) where
     pub passed : List (List ℕ)
     pub all : words text ≡ passed ++ words rest
     pub read : Spell spells passed xs
-    pub begins : 0 < length rest → is_ascii_whitespace (get_or rest 0 0) ≡ false
 
-  pub reading_starts : (text : List ℕ) → Reading text (unpadded text) []
-  reading_starts text = record { passed = []; all = sym (words_unpadded text); read = tt; begins = unpadded_begins text }
+  pub reading_starts : (text rest : List ℕ) (xs : List L) → rest ≡ text → xs ≡ [] → Reading text rest xs
+  reading_starts text rest xs same none = record { passed = []; all = ap words (sym same); read = subst (Spell spells []) (sym none) tt }
 
-  module _ (text rest : List ℕ) (xs : List L) (some : 0 < length rest) (so_far : Reading text rest xs) where
-    onward : words text ≡ so_far.passed ++ (front rest ∷ words (further rest))
-    onward = so_far.all ∙ ap (λ ws. so_far.passed ++ ws) (words_begun rest some so_far.begins)
+  module _ (text rest further word : List ℕ) (xs : List L) (first : words rest ≡ word ∷ words further) (so_far : Reading text rest xs) where
+    onward : words text ≡ so_far.passed ++ (word ∷ words further)
+    onward = so_far.all ∙ ap (λ ws. so_far.passed ++ ws) first
 
-    pub reading_more : (x : L) → spells (front rest) x → Reading text (further rest) (xs ++ x ∷ [])
-    reading_more x s = record {
-      passed = so_far.passed ++ front rest ∷ [];
-      all = onward ∙ sym (append_assoc so_far.passed (front rest ∷ []) (words (further rest)));
-      read = spell_more so_far.passed xs (front rest) x so_far.read s;
-      begins = unpadded_begins (behind rest);
+    pub reading_more : (x : L) (ys : List L) → ys ≡ xs ++ x ∷ [] → spells word x → Reading text further ys
+    reading_more x ys pushed s = record {
+      passed = so_far.passed ++ word ∷ [];
+      all = onward ∙ sym (append_assoc so_far.passed (word ∷ []) (words further));
+      read = subst (Spell spells _) (sym pushed) (spell_more so_far.passed xs word x so_far.read s);
     }
 
-    pub reading_stuck : ((x : L) → spells (front rest) x → ⊥) → (ys : List L) → Spell spells (words text) ys → ⊥
+    pub reading_stuck : ((x : L) → spells word x → ⊥) → (ys : List L) → Spell spells (words text) ys → ⊥
     reading_stuck none ys all =
-        spell_stuck so_far.passed (words (further rest)) (front rest) ys none (subst (λ ws. Spell spells ws ys) onward all)
+        spell_stuck so_far.passed (words further) word ys none (subst (λ ws. Spell spells ws ys) onward all)
 
-  pub reading_ends : (text rest : List ℕ) (xs : List L) → rest ≡ [] → Reading text rest xs → Spell spells (words text) xs
-  reading_ends text rest xs empty so_far =
-      subst (λ ws. Spell spells ws xs) (sym (so_far.all ∙ ap (λ r. so_far.passed ++ words r) empty ∙ append-nil so_far.passed)) so_far.read
+  pub reading_ends : (text rest : List ℕ) (xs : List L) → words rest ≡ [] → Reading text rest xs → Spell spells (words text) xs
+  reading_ends text rest xs none so_far =
+      subst (λ ws. Spell spells ws xs) (sym (so_far.all ∙ ap (λ ws. so_far.passed ++ ws) none ∙ append-nil so_far.passed)) so_far.read

@@ -58,16 +58,6 @@ module _ (whole acc before pair rest : List ℕ) (is : before ≡ pair ++ rest) 
   pub reads_on : (b : ℕ) → Some b ≡ joined (hex_value (get_or pair 0 0)) (hex_value (get_or pair 1 0)) → hex_bytes whole ≡ after (acc ++ b ∷ []) (hex_bytes rest)
   reads_on b e = onward ∙ ap (λ t. after acc (followed t (hex_bytes rest))) (sym e) ∙ pushed b _
 
-  -- two digits that write no byte
-  pub stuck : None ≡ joined (hex_value (get_or pair 0 0)) (hex_value (get_or pair 1 0)) → hex_bytes whole ≡ None
-  stuck e = onward ∙ ap (λ t. after acc (followed t (hex_bytes rest))) (sym e)
-
--- all is read
-pub read_all : (whole acc rest : List ℕ) → length rest < 2 → length rest % 2 ≡ 0 → hex_bytes whole ≡ after acc (hex_bytes rest) → hex_bytes whole ≡ Some acc
-read_all whole acc [] l e so_far = so_far ∙ ap Some (append-nil acc)
-read_all whole acc (a ∷ []) l e so_far = absurd (omega arith)
-read_all whole acc (a ∷ b ∷ rest) l e so_far = absurd (omega arith)
-
 module _ {L : Type 0} (t : L → List ℕ) where
   spaced_more : (xs : List L) (y : L) → spaced t (xs ++ y ∷ []) ≡ spaced t xs ++ 32 ∷ t y
   spaced_more [] y = ap (λ s. 32 ∷ s) (append-nil (t y))
@@ -177,18 +167,6 @@ four_bytes w e = ap hex_bytes (four w e)
 -- flags are four digits
 pub flagged_long : (w : List ℕ) (flags : ℕ) → Flagged w flags → length w ≡ 4
 flagged_long w flags f = omega (arith, bytes_long w _ f.bytes)
-
-module _ (w : List ℕ) (flags : ℕ) (f : Flagged w flags) where
-  high_part : (b : ℕ) × (rest : List ℕ) × (joined (hex_value (get_or w 0 0)) (hex_value (get_or w 1 0)) ≡ Some b) × (followed (joined (hex_value (get_or w 2 0)) (hex_value (get_or w 3 0))) (Some []) ≡ Some rest) × (f.high ∷ f.low ∷ [] ≡ b ∷ rest)
-  high_part =
-      followed_parts (joined (hex_value (get_or w 0 0)) (hex_value (get_or w 1 0))) (followed (joined (hex_value (get_or w 2 0)) (hex_value (get_or w 3 0))) (Some [])) (f.high ∷ f.low ∷ []) (sym (four_bytes w (flagged_long w flags f)) ∙ f.bytes)
-
-  -- the last two of four digits are a byte
-  pub flagged_low : joined (hex_value (get_or w 2 0)) (hex_value (get_or w 3 0)) ≡ None → ⊥
-  flagged_low none =
-      let low = followed_parts (joined (hex_value (get_or w 2 0)) (hex_value (get_or w 3 0))) (Some []) high_part.1 high_part.3 in
-      let z : ◌≡◌ {A = ℕ} 0 1 = cc (none, low.2) in
-      omega arith
 
 module _ {A B : Type 0} (first : List ℕ → A → Type 0) (second : List ℕ → B → Type 0) (word : List ℕ) where
   -- two spellings are those of the parts that the first slash leaves

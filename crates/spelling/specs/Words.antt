@@ -1,6 +1,7 @@
--- The words of a text, parted by ASCII white space: space, tab, line feed, form feed, carriage return.
-use Rattle.std.specs.Prelude.{◌≡◌, ℕ, cond, List, [], ◌∷◌, take, drop}
+-- The words of a text, parted by ASCII white space: space, tab, line feed, form feed, carriage return; or by spaces alone.
+use Rattle.std.specs.Prelude.{◌≡◌, ℕ, cond, List, [], ◌∷◌, ◌==◌, take, drop}
 use Rattle.std.specs.Char.{is_ascii_whitespace}
+use Rattle.std.specs.List.{before_first, after_first}
 use Rattle.std.specs.Str.{IsCharBoundary}
 
 -- the text from its first byte that is no white space
@@ -35,6 +36,19 @@ behind (b ∷ bs) = cond (is_ascii_whitespace b) (b ∷ bs) (behind bs)
 -- what stands after the first word and the white space behind it
 abbrev pub further : List ℕ → List ℕ
 further text = unpadded (behind text)
+
+-- the first word of a text, and what stands after it
+pub record Cut : Type 0 where
+  pub front : List ℕ → List ℕ
+  pub further : List ℕ → List ℕ
+
+-- a text cut at its first white space
+abbrev pub at_white_space : Cut
+at_white_space = record { front = front; further = further }
+
+-- a text cut at its first space; what stands after it has no white space at its two ends
+abbrev pub at_spaces : Cut
+at_spaces = record { front = before_first (λ b. b == 32); further = λ text. trimmed (after_first (λ b. b == 32) text) }
 
 -- the first word of a text ends before this place
 pub record WordEnds (text : List ℕ) (at : ℕ) : Type 0 where

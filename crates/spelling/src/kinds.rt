@@ -65,25 +65,19 @@ impl Written for Labels {
     ghost spells = { λ t x. Flagged t x.flags };
 
     fn read(word: &str) -> Option<Labels> {
-        let digits = word.as_bytes();
-        if digits.len() != 4 {
+        let [a, b, c, d] = *word.as_bytes() else {
             return None;
-        }
-        let high = hex::byte(digits[0], digits[1])?;
-        let low = hex::byte(digits[2], digits[3])?;
+        };
+        let high = hex::byte(a, b)?;
+        let low = hex::byte(c, d)?;
         Some(Labels {
-            flags: 256 * u16::from(high) + u16::from(low),
+            flags: u16::from_be_bytes([high, low]),
         })
     }
 
     fn show(self, heap: Global) -> Result<String, AllocError> {
-        let high = self.flags / 256;
-        let low = self.flags % 256;
-        let a = hex::digit((high / 16) as u8);
-        let b = hex::digit((high % 16) as u8);
-        let c = hex::digit((low / 16) as u8);
-        let d = hex::digit((low % 16) as u8);
-        format!(in heap; "{a}{b}{c}{d}")
+        let [high, low] = self.flags.to_be_bytes();
+        format!(in heap; "{high:02X}{low:02X}")
     }
 }
 

@@ -5,8 +5,8 @@ ghost use Rattle.spelling.specs.Spellings.{Read, Spell};
 ghost use Rattle.spelling.specs.Texts.{hex_bytes, row_text, rows_text};
 ghost use Rattle.spelling.specs.Words.{words as words_of};
 
+use crate::hex;
 use crate::written::Written;
-use crate::{hex, words};
 use std::alloc::{AllocError, Global};
 
 // The bytes that a text of hexadecimal digits writes, two digits each.
@@ -31,14 +31,11 @@ pub fn levels<L: Written>(heap: Global, text: &str) -> Result<Option<Vec<L>>, Al
     ensures { IfOk result (λ o. Read (Spell L.Written.spells) (words_of text.now) (option_map vec_items o)) }
 {
     let mut levels = Vec::new(heap);
-    let mut rest = text.trim_ascii_start();
-    while !rest.is_empty() {
-        let (word, further) = words::parted(rest);
+    for word in text.split_ascii_whitespace() {
         match L::read(word) {
             Some(level) => levels.push(level)?,
             None => return Ok(None),
         }
-        rest = further;
     }
     Ok(Some(levels))
 }

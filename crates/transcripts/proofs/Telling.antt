@@ -1,6 +1,7 @@
 -- What is told of lines, put together.
-use Rattle.std.proofs.Common.{◌≡◌, ℕ, List, ◌++◌, IfOk, Some, None, Ok, Err, Option, Result, MatchOption, string_bytes, sym, refl, inl, inr, subst}
+use Rattle.std.proofs.Common.{◌≡◌, ℕ, List, ◌++◌, IfOk, Ok, Err, Option, Result, MatchResult, string_bytes, sym, refl, inl, inr, subst}
 use Rattle.std.specs.Prelude.{String}
+use Rattle.std.specs.declared.alloc.AllocError.{AllocError}
 use Rattle.level.specs.Kind.{Kind}
 use Rattle.rule.specs.Criterion.{Criterion}
 use Rattle.cell.specs.Histories.{History, Setting}
@@ -17,14 +18,14 @@ use Rattle.transcripts.specs.Texts.{unserved_text}
 use Rattle.transcripts.specs.Transcripts.{Celled, Headed, Served}
 
 -- an answer that does not come from want of memory
-pub by_memory : {P : Type 0} (answer : Result (Reply P) Trouble) (wanting other : Type 0) → (answer ≡ Err NoMemory → ⊥) → ByMemory answer wanting other → other
+pub by_memory : {P : Type 0} (answer : Result (Reply P) Trouble) (wanting other : Type 0) → ((want : AllocError) → answer ≡ Err (NoMemory want) → ⊥) → ByMemory answer wanting other → other
 by_memory (Ok reply) wanting other some p = p
 by_memory (Err (Unread fault)) wanting other some p = p
 by_memory (Err NotText) wanting other some p = p
 by_memory (Err NoBytes) wanting other some p = p
 by_memory (Err NoLevels) wanting other some p = p
 by_memory (Err TooLong) wanting other some p = p
-by_memory (Err NoMemory) wanting other some p = absurd (some refl)
+by_memory (Err (NoMemory want)) wanting other some p = absurd (some want refl)
 by_memory (Err NoCell) wanting other some p = p
 
 module _ (K : Kind) {S P R : Type 0} (m : P → K.Level) (C : Criterion) where
@@ -44,30 +45,30 @@ module _ (K : Kind) {S P R : Type 0} (m : P → K.Level) (C : Criterion) where
     tidy_after (Err NoBytes) q = tidy_grown (Err NoBytes) q
     tidy_after (Err NoLevels) q = tidy_grown (Err NoLevels) q
     tidy_after (Err TooLong) q = tidy_grown (Err TooLong) q
-    tidy_after (Err NoMemory) q = subst (Tidy K m C) (sym q) k
+    tidy_after (Err (NoMemory want)) q = subst (Tidy K m C) (sym q) k
     tidy_after (Err NoCell) q = tidy_grown (Err NoCell) q
 
   -- a line whose call is in trouble, or that there is no memory for
-  pub troubled_line : (spells : List ℕ → P → Type 0) (shown : P → List ℕ) (width : ℕ) (before after : Desk S P R) (n : ℕ) (p : Put) (trouble : Trouble) {Z E : Type 0} (r : Result (Option (String Z)) E)
+  pub troubled_line : (spells : List ℕ → P → Type 0) (shown : P → List ℕ) (width : ℕ) (before after : Desk S P R) (n : ℕ) (p : Put) (trouble : Trouble) {Z E : Type 0} (r : Result (Result (String Z) AllocError) E)
       → Replied K m C spells before after p (Err trouble)
-      → IfOk r (λ o. MatchOption o (trouble ≡ NoMemory) (λ t. (trouble ≡ NoMemory → ⊥) × (string_bytes t ≡ unserved_text n trouble)))
-      → IfOk r (λ o. MatchOption o (after ≡ before) (λ t. LineServed K m C spells shown width before after n (Ok (put p)) (string_bytes t)))
+      → IfOk r (λ o. MatchResult o (λ t. ((want : AllocError) → trouble ≡ NoMemory want → ⊥) × (string_bytes t ≡ unserved_text n trouble)) (λ want. trouble ≡ NoMemory want))
+      → IfOk r (λ o. MatchResult o (λ t. LineServed K m C spells shown width before after n (Ok (put p)) (string_bytes t)) (λ _. after ≡ before))
   troubled_line spells shown width before after n p trouble (Err e) replied told = tt
-  troubled_line spells shown width before after n p trouble (Ok None) replied wanting =
+  troubled_line spells shown width before after n p trouble (Ok (Err want)) replied wanting =
       subst (λ t. ByMemory {P = P} (Err t) (after ≡ before) (grows spells before after p (Err trouble))) wanting replied
-  troubled_line spells shown width before after n p trouble (Ok (Some t)) replied told = λ s h w b.
-      let some : ◌≡◌ {A = Result (Reply P) Trouble} (Err trouble) (Err NoMemory) → ⊥ = λ e. let same : trouble ≡ NoMemory = cc e in told.0 same in
+  troubled_line spells shown width before after n p trouble (Ok (Ok t)) replied told = λ s h w b.
+      let some : (want : AllocError) → ◌≡◌ {A = Result (Reply P) Trouble} (Err trouble) (Err (NoMemory want)) → ⊥ = λ want e. let same : trouble ≡ NoMemory want = cc e in told.0 want same in
       let f = by_memory (Err trouble) (after ≡ before) (grows spells before after p (Err trouble)) some replied s h b in
       (f.0, (Err trouble, f.1, told.1), f.2)
 
   -- a line's answer, or what stands for it
-  pub told_line : (spells : List ℕ → P → Type 0) (shown : P → List ℕ) (width : ℕ) (Misses : ℕ → List ℕ → Type 0) (before after : Desk S P R) (n : ℕ) (r : Result Asked Trouble) {Z : Type 0} (answer : Option (String Z)) (text : List ℕ)
-      → MatchOption answer (after ≡ before) (λ t. LineServed K m C spells shown width before after n r (string_bytes t))
-      → MatchOption answer (Misses n text) (λ t. text ≡ string_bytes t)
+  pub told_line : (spells : List ℕ → P → Type 0) (shown : P → List ℕ) (width : ℕ) (Misses : ℕ → List ℕ → Type 0) (before after : Desk S P R) (n : ℕ) (r : Result Asked Trouble) {Z : Type 0} (answer : Result (String Z) AllocError) (text : List ℕ)
+      → MatchResult answer (λ t. LineServed K m C spells shown width before after n r (string_bytes t)) (λ _. after ≡ before)
+      → MatchResult answer (λ t. text ≡ string_bytes t) (λ _. Misses n text)
       → (s : Setting) (h : History K.Level) → s.width ≡ width → After K m C before s h
       → (h' : History K.Level) × Served Misses (Celled K m C spells shown s) h n r h' text × After K m C after s h'
-  told_line spells shown width Misses before after n r None text same miss s h w b = (h, inr (refl, miss), subst (λ d. After K m C d s h) (sym same) b)
-  told_line spells shown width Misses before after n r (Some t) text served is s h w b =
+  told_line spells shown width Misses before after n r (Err want) text same miss s h w b = (h, inr (refl, miss), subst (λ d. After K m C d s h) (sym same) b)
+  told_line spells shown width Misses before after n r (Ok t) text served is s h w b =
       let f = served s h w b in
       (f.0, inl (subst (Celled K m C spells shown s h n r f.0) (sym is) f.1), f.2)
 

@@ -68,7 +68,7 @@ ByMemory (Err NotText) wanting other = other
 ByMemory (Err NoBytes) wanting other = other
 ByMemory (Err NoLevels) wanting other = other
 ByMemory (Err TooLong) wanting other = other
-ByMemory (Err NoMemory) wanting other = wanting
+ByMemory (Err (NoMemory want)) wanting other = wanting
 ByMemory (Err NoCell) wanting other = other
 
 -- a call of the script is answered by a desk, whatever history is behind it; where memory is wanting the desk stays as it was

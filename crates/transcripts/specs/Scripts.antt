@@ -18,6 +18,7 @@ use Rattle.std.specs.Fmt.{signed_decimal}
 use Rattle.commands.specs.Commands.{Asked}
 use Rattle.spelling.specs.Spellings.{Decimal, Flagged, Joined, Signed}
 use Rattle.spelling.specs.Texts.{four_digits}
+use Rattle.spelling.specs.Words.{Cut, at_white_space}
 use Rattle.transcripts.specs.declared.reply.Trouble.{Trouble}
 use Rattle.transcripts.specs.declared.reply.Trouble.TheVariants.{TooLong}
 use Rattle.transcripts.specs.declared.line.Start.{Start}
@@ -92,25 +93,26 @@ Makes n making w text =
 abbrev pub Goes : World → ℕ → Result Asked Trouble → World → List ℕ → Type 0
 Goes before n r after text = ByCell r (λ making. Makes n making after text) (StaysIn before n r after text)
 
-module _ (Step : World → ℕ → Result Asked Trouble → World → List ℕ → Type 0) where
+module _ (cut : Cut) (Step : World → ℕ → Result Asked Trouble → World → List ℕ → Type 0) where
   -- what lines from number n on print, each after those before it
   abbrev pub Script : World → ℕ → List (List ℕ) → List ℕ → Type 0
   Script w n [] text = text ≡ []
-  Script w n (line ∷ rest) text = (r : Result Asked Trouble) × LineRead line r × Onward Step (λ after t. Script after (n + 1) rest t) w n r text
+  Script w n (line ∷ rest) text = (r : Result Asked Trouble) × LineRead cut line r × Onward Step (λ after t. Script after (n + 1) rest t) w n r text
 
--- what a script of these lines prints
+-- what a script of these lines prints, whose words part at white space
 abbrev pub Prints : List (List ℕ) → List ℕ → Type 0
-Prints lines text = Script Goes none 1 lines text
+Prints lines text = Script at_white_space Goes none 1 lines text
 
 module _ (Misses : ℕ → List ℕ → Type 0) where
   -- what a line does and tells; or there is no memory for it, and something is told in its place
   abbrev pub GoesOrMisses : World → ℕ → Result Asked Trouble → World → List ℕ → Type 0
   GoesOrMisses before n r after text = Goes before n r after text ⊎ (ByCell r (λ making. after ≡ none) (after ≡ before) × Misses n text)
 
+module _ (cut : Cut) (Misses : ℕ → List ℕ → Type 0) where
   -- what is told of a script of these lines
   abbrev pub ToldOf : List (List ℕ) → List ℕ → Type 0
-  ToldOf lines text = Script GoesOrMisses none 1 lines text
+  ToldOf lines text = Script cut (GoesOrMisses Misses) none 1 lines text
 
   -- the lines of a cell of this kind
   abbrev pub ServedAs : KindName → Criterion → Start → List (List ℕ) → List ℕ → Option Start → Type 0
-  ServedAs k C = Session Misses (kind_of k) (meaning_of k) C (SpellsOf k) (shown_of k)
+  ServedAs k C = Session cut Misses (kind_of k) (meaning_of k) C (SpellsOf k) (shown_of k)

@@ -15,7 +15,7 @@ trouble_text NotText = codes "not text"
 trouble_text NoBytes = codes "no bytes in hexadecimal digits"
 trouble_text NoLevels = codes "no levels of the cell's kind"
 trouble_text TooLong = codes "more levels than can be served"
-trouble_text NoMemory = codes "no memory for it"
+trouble_text (NoMemory want) = codes "no memory for it"
 trouble_text NoCell = codes "no cell yet"
 
 -- a line that is not served is told by its number

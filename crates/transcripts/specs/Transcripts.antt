@@ -6,6 +6,7 @@ use Rattle.cell.specs.Histories.{History, Setting, setting}
 use Rattle.commands.specs.declared.command.Making.{Making}
 use Rattle.commands.specs.declared.command.Unread.{Unread}
 use Rattle.commands.specs.Commands.{Asked, Asks, nothing, note, cell, put}
+use Rattle.spelling.specs.Words.{Cut}
 use Rattle.transcripts.specs.declared.reply.Reply.{Reply}
 use Rattle.transcripts.specs.declared.reply.Trouble.{Trouble}
 use Rattle.transcripts.specs.declared.reply.Trouble.TheVariants.{Unread as Unreadable, NotText, NoCell, TooLong}
@@ -18,10 +19,10 @@ abbrev pub readable : Result Asked Unread → Result Asked Trouble
 readable (Ok asked) = Ok asked
 readable (Err fault) = Err (Unreadable fault)
 
--- what a line of bytes asks for; it has to be text
-abbrev pub LineRead : List ℕ → Result Asked Trouble → Type 0
-LineRead line r =
-    ((IsUtf8 line → ⊥) × (r ≡ Err NotText)) ⊎ (IsUtf8 line × ((x : Result Asked Unread) × Asks line x × (r ≡ readable x)))
+-- what a line of bytes asks for, whose words part by this cut; it has to be text
+abbrev pub LineRead : Cut → List ℕ → Result Asked Trouble → Type 0
+LineRead cut line r =
+    ((IsUtf8 line → ⊥) × (r ≡ Err NotText)) ⊎ (IsUtf8 line × ((x : Result Asked Unread) × Asks cut line x × (r ≡ readable x)))
 
 -- by whether a line that was read asks for a new cell
 abbrev pub ByCell : Result Asked Trouble → (Making → Type 0) → Type 0 → Type 0
@@ -45,13 +46,14 @@ module _ {State : Type 0} (Serves : State → ℕ → Result Asked Trouble → S
     pub others : Rest after rest
     pub all : text ≡ first ++ rest
 
+module _ (cut : Cut) {State : Type 0} (Serves : State → ℕ → Result Asked Trouble → State → List ℕ → Type 0) where
   -- lines from number n on are served one by one, up to one that asks for a new cell
   abbrev pub Lines : State → ℕ → List (List ℕ) → List ℕ → Option Start → Type 0
   Lines state n [] text next = (text ≡ []) × (next ≡ None)
   Lines state n (line ∷ rest) text next =
-      (r : Result Asked Trouble) × LineRead line r
+      (r : Result Asked Trouble) × LineRead cut line r
       × ByCell r (λ making. (text ≡ []) × (next ≡ Some (record { line = n; making = making })))
-      (Onward (λ after t. Lines after (n + 1) rest t next) state n r text)
+      (Onward Serves (λ after t. Lines after (n + 1) rest t next) state n r text)
 
 -- without a cell every call is in trouble
 abbrev pub Bare : Unit {0} → ℕ → Result Asked Trouble → Unit {0} → List ℕ → Type 0
@@ -86,16 +88,17 @@ module _ (Misses : ℕ → List ℕ → Type 0) where
   abbrev pub Served : {State : Type 0} → (State → ℕ → Result Asked Trouble → State → List ℕ → Type 0) → State → ℕ → Result Asked Trouble → State → List ℕ → Type 0
   Served serves before n r after text = serves before n r after text ⊎ ((after ≡ before) × Misses n text)
 
+module _ (cut : Cut) (Misses : ℕ → List ℕ → Type 0) where
   -- something is told in place of a line, and the lines after it find no cell
   pub record Missed (start : Start) (lines : List (List ℕ)) (text : List ℕ) (next : Option Start) : Type 0 where
     pub head : List ℕ
     pub misses : Misses start.line head
-    pub others : Headed (Lines (Served Bare) tt (start.line + 1) lines) head text next
+    pub others : Headed (Lines cut (Served Misses Bare) tt (start.line + 1) lines) head text next
 
   -- a new cell is made and serves the lines after its own; one with too many levels, or with more than memory has, is not, and they find no cell
   abbrev pub Session : (K : Kind) {P : Type 0} → (P → K.Level) → Criterion → (List ℕ → P → Type 0) → (P → List ℕ) → Start → List (List ℕ) → List ℕ → Option Start → Type 0
   Session K m C spells shown start lines text next =
       Missed start lines text next
       ⊎ MatchBool (nat_le start.making.levels most)
-      (Headed (Lines (Served (Celled K m C spells shown (asked_setting start.making))) [] (start.line + 1) lines) (codes "made\n") text next)
-      (Headed (Lines (Served Bare) tt (start.line + 1) lines) (unserved_text start.line TooLong) text next)
+      (Headed (Lines cut (Served Misses (Celled K m C spells shown (asked_setting start.making))) [] (start.line + 1) lines) (codes "made\n") text next)
+      (Headed (Lines cut (Served Misses Bare) tt (start.line + 1) lines) (unserved_text start.line TooLong) text next)

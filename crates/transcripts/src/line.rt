@@ -7,6 +7,7 @@ ghost use Rattle.transcripts.specs.Transcripts.{AsksNoCell, LineRead};
 use crate::reply::Trouble;
 use commands::command;
 use commands::command::{Command, Making};
+use spelling::words::Parting;
 
 // A line that asks for a new cell.
 #[derive(Clone, Copy)]
@@ -15,12 +16,12 @@ pub struct Start {
     pub making: Making,
 }
 
-// What a line asks for.
-pub fn read(line: &[u8]) -> Result<Command<'_>, Trouble>
-    ensures { LineRead line.now (asked_by result) }
+// What a line asks for, whose words part this way.
+pub fn read<P: Parting>(line: &[u8]) -> Result<Command<'_>, Trouble>
+    ensures { LineRead P.cut line.now (asked_by result) }
 {
     let text = std::str::from_utf8(line)?;
-    Ok(command::read(text)?)
+    Ok(command::read::<P>(text)?)
 }
 
 // The new cell that a line asks for, if it asks for one.

@@ -1,5 +1,5 @@
 // What is answered to a line, and its text.
-ghost use Rattle.std.specs.Prelude.{◌≡◌, IfOk, Some, string_bytes};
+ghost use Rattle.std.specs.Prelude.{◌≡◌, IfOk, Some, alloc_error, string_bytes};
 ghost use Rattle.transcripts.specs.declared.reply.Trouble.TheVariants.{NoMemory, NotText, Unread as Unreadable};
 ghost use Rattle.transcripts.specs.Texts.{reply_text, trouble_text, unserved_text};
 
@@ -21,7 +21,7 @@ pub enum Trouble {
     NoBytes,
     NoLevels,
     TooLong,
-    NoMemory,
+    NoMemory(AllocError),
     NoCell,
 }
 
@@ -52,18 +52,18 @@ impl From<Unread> for Trouble {
 }
 
 impl From<AllocError> for Trouble {
-    ghost from_gives = { λ _ trouble. trouble ≡ NoMemory };
+    ghost from_gives = { λ want trouble. trouble ≡ NoMemory want };
 
-    fn from(_: AllocError) -> Trouble {
-        Trouble::NoMemory
+    fn from(want: AllocError) -> Trouble {
+        Trouble::NoMemory(want)
     }
 }
 
 impl<T: Drop> From<AllocFailed<T>> for Trouble {
-    ghost from_gives = { λ _ trouble. trouble ≡ NoMemory };
+    ghost from_gives = { λ _ trouble. trouble ≡ NoMemory alloc_error };
 
-    fn from(_: AllocFailed<T>) -> Trouble {
-        Trouble::NoMemory
+    fn from(failed: AllocFailed<T>) -> Trouble {
+        Trouble::NoMemory(AllocError::from(failed))
     }
 }
 
@@ -77,7 +77,7 @@ impl fmt::Display for Trouble {
             Trouble::NoBytes => f.write_str("no bytes in hexadecimal digits"),
             Trouble::NoLevels => f.write_str("no levels of the cell's kind"),
             Trouble::TooLong => f.write_str("more levels than can be served"),
-            Trouble::NoMemory => f.write_str("no memory for it"),
+            Trouble::NoMemory(_) => f.write_str("no memory for it"),
             Trouble::NoCell => f.write_str("no cell yet"),
         }
     }

@@ -1,5 +1,6 @@
 // Lines served one by one, without a cell and by one.
-ghost use Rattle.std.specs.Prelude.{◌≡◌, ℕ, ◌+◌, List, map, drop, Ok, IfOk, OnOk, MatchOption, vec_items, string_bytes, ◌≢◌};
+ghost use Rattle.std.specs.Prelude.{◌≡◌, ℕ, ◌+◌, List, map, drop, Ok, IfOk, OnOk, MatchResult, vec_items, string_bytes, ◌≢◌};
+ghost use Rattle.std.specs.declared.alloc.AllocError.{AllocError as Wanting};
 ghost use Rattle.transcripts.specs.declared.reply.Trouble.TheVariants.{NoMemory};
 ghost use Rattle.transcripts.specs.Texts.{unserved_text};
 ghost use Rattle.commands.specs.Commands.{asked_by, put as called, put_by};
@@ -35,122 +36,137 @@ fn bare_line(
     }
 }
 
-// Answers the lines from an index on while there is no cell; gives the line that asks for the next one.
-pub fn bare_lines<T: Teller>(
+// Says why a line is not served; hands on the want of memory for it.
+fn troubled(
     heap: Global,
-    from: usize,
-    lines: &[Vec<u8>],
-    teller: &mut T,
-) -> Result<Option<Start>, T::Fault>
-    ensures { IfOk result (λ next. (text : List ℕ) × T.tells teller.old teller.new text × Lines (Served T.misses Bare) tt (from + 1) (map vec_items (drop from lines.now)) text next) }
-{
-    for i in from..lines.len() {
-        let command = line::read(&lines[i]);
-        match line::making(&command) {
-            Some(making) => {
-                return Ok(Some(Start {
-                    line: i + 1,
-                    making,
-                }));
-            }
-            None => {
-                let answer = bare_line(heap, i + 1, command)?;
-                teller.tell(answer.as_str())?;
-            }
-        }
-    }
-    Ok(None)
-}
-
-// Says why a line is not served; nothing where there is no memory for it.
-fn troubled(heap: Global, number: usize, trouble: Trouble) -> Result<Option<String>, AllocError>
-    ensures { IfOk result (λ o. MatchOption o (trouble ≡ NoMemory) (λ t. (trouble ≢ NoMemory) × (string_bytes t ≡ unserved_text number trouble))) }
+    number: usize,
+    trouble: Trouble,
+) -> Result<Result<String, AllocError>, AllocError>
+    ensures { IfOk result (λ o. MatchResult o (λ t. ((want : Wanting) → trouble ≢ NoMemory want) × (string_bytes t ≡ unserved_text number trouble)) (λ want. trouble ≡ NoMemory want)) }
 {
     match trouble {
-        Trouble::NoMemory => Ok(None),
-        other => Ok(Some(unserved(heap, number, other)?)),
+        Trouble::NoMemory(want) => Ok(Err(want)),
+        other => Ok(Ok(unserved(heap, number, other)?)),
     }
 }
 
-// The answer to a line that puts a call to the desk's cell; none where there is no memory for the line.
+// The answer to a line that puts a call to the desk's cell, or the want of memory for the line.
 fn put_line<S: Setup>(
     heap: Global,
     desk: &mut Desk<S>,
     width: usize,
     number: usize,
     call: Call<'_>,
-) -> Result<Option<String>, AllocError>
+) -> Result<Result<String, AllocError>, AllocError>
 where
     S::Pixel: Written,
     requires { Tidy S.Pixel.Level.kind S.Pixel.Level.meaning S.Selector.Rule.criterion desk.old }
     ensures tidy { Tidy S.Pixel.Level.kind S.Pixel.Level.meaning S.Selector.Rule.criterion desk.new }
-    ensures served { IfOk result (λ o. MatchOption o (desk.new ≡ desk.old) (λ t. LineServed S.Pixel.Level.kind S.Pixel.Level.meaning S.Selector.Rule.criterion S.Pixel.Written.spells S.Pixel.Written.text width desk.old desk.new number (Ok (called (put_by call.entry))) (string_bytes t))) }
+    ensures served { IfOk result (λ o. MatchResult o (λ t. LineServed S.Pixel.Level.kind S.Pixel.Level.meaning S.Selector.Rule.criterion S.Pixel.Written.spells S.Pixel.Written.text width desk.old desk.new number (Ok (called (put_by call.entry))) (string_bytes t)) (λ _. desk.new ≡ desk.old)) }
 {
     match put::<S>(heap, desk, call) {
-        Ok(reply) => Ok(Some(reply.text(heap, width)?)),
+        Ok(reply) => Ok(Ok(reply.text(heap, width)?)),
         Err(trouble) => troubled(heap, number, trouble),
     }
 }
 
-// The answer to a line by the desk's cell, whose frames have this width; none where there is no memory for the line.
+// The answer to a line by the desk's cell, whose frames have this width, or the want of memory for the line.
 fn celled_line<S: Setup>(
     heap: Global,
     desk: &mut Desk<S>,
     width: usize,
     number: usize,
     command: Result<Command<'_>, Trouble>,
-) -> Result<Option<String>, AllocError>
+) -> Result<Result<String, AllocError>, AllocError>
 where
     S::Pixel: Written,
     requires { Tidy S.Pixel.Level.kind S.Pixel.Level.meaning S.Selector.Rule.criterion desk.old }
     ensures tidy { Tidy S.Pixel.Level.kind S.Pixel.Level.meaning S.Selector.Rule.criterion desk.new }
-    ensures served { IfOk result (λ o. MatchOption o (desk.new ≡ desk.old) (λ t. LineServed S.Pixel.Level.kind S.Pixel.Level.meaning S.Selector.Rule.criterion S.Pixel.Written.spells S.Pixel.Written.text width desk.old desk.new number (asked_by command.entry) (string_bytes t))) }
+    ensures served { IfOk result (λ o. MatchResult o (λ t. LineServed S.Pixel.Level.kind S.Pixel.Level.meaning S.Selector.Rule.criterion S.Pixel.Written.spells S.Pixel.Written.text width desk.old desk.new number (asked_by command.entry) (string_bytes t)) (λ _. desk.new ≡ desk.old)) }
 {
     match command {
         Ok(Command::Put(call)) => put_line::<S>(heap, desk, width, number, call),
-        other => Ok(Some(bare_line(heap, number, other)?)),
+        other => Ok(Ok(bare_line(heap, number, other)?)),
     }
 }
 
-// Tells the answer to a line; where there is none, that there is no memory for the line.
-fn told<T: Teller>(teller: &mut T, line: usize, answer: Option<String>) -> Result<(), T::Fault>
-    ensures { OnOk result ((text : List ℕ) × T.tells teller.old teller.new text × MatchOption answer (T.misses line text) (λ t. text ≡ string_bytes t)) }
-{
-    match answer {
-        Some(answer) => teller.tell(answer.as_str()),
-        None => teller.miss(line),
-    }
+// A script's lines on their way to a teller.
+#[derive(Drop)]
+pub struct Serving<'a, T: Teller> {
+    pub heap: Global,
+    pub lines: &'a [Vec<u8>],
+    pub teller: &'a mut T,
 }
 
-// Answers the lines from an index on by the desk's cell; gives the line that asks for the next one.
-pub fn celled_lines<S: Setup, T: Teller>(
-    heap: Global,
-    desk: &mut Desk<S>,
-    width: usize,
-    from: usize,
-    lines: &[Vec<u8>],
-    teller: &mut T,
-) -> Result<Option<Start>, T::Fault>
-where
-    S::Pixel: Written,
-    requires { Tidy S.Pixel.Level.kind S.Pixel.Level.meaning S.Selector.Rule.criterion desk.old }
-    ensures tidy { Tidy S.Pixel.Level.kind S.Pixel.Level.meaning S.Selector.Rule.criterion desk.new }
-    ensures served { IfOk result (λ next. (text : List ℕ) × T.tells teller.old teller.new text × LinesServed S.Pixel.Level.kind S.Pixel.Level.meaning S.Selector.Rule.criterion S.Pixel.Written.spells S.Pixel.Written.text width T.misses desk.old (from + 1) (map vec_items (drop from lines.now)) text next) }
-{
-    for i in from..lines.len() {
-        let command = line::read(&lines[i]);
-        match line::making(&command) {
-            Some(making) => {
-                return Ok(Some(Start {
-                    line: i + 1,
-                    making,
-                }));
-            }
-            None => {
-                let answer = celled_line::<S>(heap, desk, width, i + 1, command)?;
-                told(teller, i + 1, answer)?;
+impl<T: Teller> Serving<'_, T> {
+    // Answers the lines from an index on while there is no cell; gives the line that asks for the next one.
+    pub fn bare_lines(&mut self, from: usize) -> Result<Option<Start>, T::Fault>
+        ensures lines { self.new.lines.now ≡ self.old.lines.now }
+        ensures same { self.new.teller.ghost_name ≡ self.old.teller.ghost_name }
+        ensures served { IfOk result (λ next. (text : List ℕ) × T.tells self.old.teller.now self.new.teller.now text × Lines T.Words.cut (Served T.misses Bare) tt (from + 1) (map vec_items (drop from self.old.lines.now)) text next) }
+    {
+        let lines = self.lines;
+        for (i, line) in lines.iter().enumerate().skip(from) {
+            let command = line::read::<T::Words>(line);
+            match line::making(&command) {
+                Some(making) => {
+                    return Ok(Some(Start {
+                        line: i + 1,
+                        making,
+                    }));
+                }
+                None => {
+                    let answer = bare_line(self.heap, i + 1, command)?;
+                    self.teller.tell(answer.as_str())?;
+                }
             }
         }
+        Ok(None)
     }
-    Ok(None)
+
+    // Tells the answer to a line, or that there is no memory for the line.
+    fn told(&mut self, line: usize, answer: Result<String, AllocError>) -> Result<(), T::Fault>
+        ensures lines { self.new.lines.now ≡ self.old.lines.now }
+        ensures same { self.new.teller.ghost_name ≡ self.old.teller.ghost_name }
+        ensures told { OnOk result ((text : List ℕ) × T.tells self.old.teller.now self.new.teller.now text × MatchResult answer (λ t. text ≡ string_bytes t) (λ _. T.misses line text)) }
+    {
+        match answer {
+            Ok(answer) => self.teller.tell(answer.as_str()),
+            Err(want) => self.teller.miss(line, want),
+        }
+    }
+
+    // Answers the lines from an index on by the desk's cell; gives the line that asks for the next one.
+    pub fn celled_lines<S: Setup>(
+        &mut self,
+        desk: &mut Desk<S>,
+        width: usize,
+        from: usize,
+    ) -> Result<Option<Start>, T::Fault>
+    where
+        S::Pixel: Written,
+        requires { Tidy S.Pixel.Level.kind S.Pixel.Level.meaning S.Selector.Rule.criterion desk.old }
+        ensures tidy { Tidy S.Pixel.Level.kind S.Pixel.Level.meaning S.Selector.Rule.criterion desk.new }
+        ensures lines { self.new.lines.now ≡ self.old.lines.now }
+        ensures same { self.new.teller.ghost_name ≡ self.old.teller.ghost_name }
+        ensures served { IfOk result (λ next. (text : List ℕ) × T.tells self.old.teller.now self.new.teller.now text × LinesServed S.Pixel.Level.kind S.Pixel.Level.meaning S.Selector.Rule.criterion S.Pixel.Written.spells S.Pixel.Written.text width T.Words.cut T.misses desk.old (from + 1) (map vec_items (drop from self.old.lines.now)) text next) }
+    {
+        let lines = self.lines;
+        for (i, line) in lines.iter().enumerate().skip(from) {
+            let command = line::read::<T::Words>(line);
+            match line::making(&command) {
+                Some(making) => {
+                    return Ok(Some(Start {
+                        line: i + 1,
+                        making,
+                    }));
+                }
+                None => {
+                    let answer = celled_line::<S>(self.heap, desk, width, i + 1, command)?;
+                    self.told(i + 1, answer)?;
+                }
+            }
+        }
+        Ok(None)
+    }
 }

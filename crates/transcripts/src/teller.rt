@@ -1,11 +1,15 @@
 // Where the answers to a script's lines go.
 ghost use Rattle.std.specs.Prelude.{◌≡◌, ℕ, List, [], ◌++◌, OnOk, string_bytes};
 
+use spelling::words::{Parting, WhiteSpace};
 use std::alloc::AllocError;
 
 // Something that the answers to a script's lines are told to, in order.
 pub trait Teller {
     type Fault: From<AllocError>;
+
+    // How the words of the lines part.
+    type Words: Parting;
 
     // What telling a text makes of a teller.
     ghost tells: { Self → Self → List ℕ → Type 0 };
@@ -17,8 +21,8 @@ pub trait Teller {
     fn tell(&mut self, text: &str) -> Result<(), Self::Fault>
         ensures { OnOk result (tells self.old self.new text.now) };
 
-    // Tells that there is no memory for a line.
-    fn miss(&mut self, line: usize) -> Result<(), Self::Fault>
+    // Tells that there is no memory for a line, or hands the want of it on.
+    fn miss(&mut self, line: usize, want: AllocError) -> Result<(), Self::Fault>
         ensures { OnOk result ((text : List ℕ) × misses line text × tells self.old self.new text) };
 
     // Two texts told one after the other are one.
@@ -34,6 +38,8 @@ impl Teller for String {
 
     type Fault = AllocError;
 
+    type Words = WhiteSpace;
+
     ghost tells = { λ x y text. string_bytes y ≡ string_bytes x ++ text };
 
     ghost misses = { λ _ _. ⊥ };
@@ -42,8 +48,8 @@ impl Teller for String {
         self.push_str(text)
     }
 
-    fn miss(&mut self, _line: usize) -> Result<(), AllocError> {
-        Err(AllocError)
+    fn miss(&mut self, _line: usize, want: AllocError) -> Result<(), AllocError> {
+        Err(want)
     }
 
     ghost joins = { λ x y z first second a b. appended (string_bytes x) (string_bytes y) (string_bytes z) first second a b };

@@ -1,14 +1,11 @@
-use Rattle.std.proofs.Common.{sym, arith, below_more}
-use Rattle.spelling.proofs.Parting.{word_ends}
+use Rattle.std.proofs.Common.{◌≡◌, true, false, rules, tests, sym, subst}
+use Rattle.std.proofs.lemmas.Iterator.{IsFirst-from_position, YieldsList-from_slice}
+use Rattle.std.specs.Char.{is_ascii_whitespace}
+use Rattle.spelling.specs.Words.{WordEnds}
+use Rattle.spelling.proofs.Parting.{word_found}
 use Rattle.spelling.proofs.words.word_end.Goals as goal
 
-pub returns-then-is_ascii_whitespace : goal.returns-then-is_ascii_whitespace
-returns-then-is_ascii_whitespace c =
-    let here = sym c.if-is_ascii_whitespace.ensures.value in
-    word_ends _ _ (omega (arith, c.loop-i-test.true)) c.loop-i.invariant (λ l. here)
-
-pub loop-i-preserved : goal.loop-i-preserved
-loop-i-preserved c = below_more _ _ c.loop-i.invariant (sym c.if-is_ascii_whitespace.ensures.value)
-
 pub returns : goal.returns
-returns c = word_ends _ _ (omega arith) (λ k l. c.loop-i.invariant k (omega (arith, c.loop-i-test.false))) (λ l. absurd (omega arith))
+returns c =
+    let first = IsFirst-from_position _ _ c.position.result (λ b. is_ascii_whitespace b ≡ true) (λ b. is_ascii_whitespace b ≡ false) c.position.ensures.ran (YieldsList-from_slice c.args.text.now cc) (λ x q k. search (rules, tests)) (λ x q k. search (rules, tests)) in
+    subst (WordEnds c.args.text.now) (sym c.unwrap_or.ensures) (word_found c.args.text.now c.position.result first)

@@ -1,16 +1,14 @@
-use Rattle.std.proofs.Common.{◌≡◌, ℕ, ◌<◌, [], ◌∷◌, ◌++◌, ap, ◌∙◌, ap₂}
-use lib.Utf8.{encode}
-use Rattle.std.proofs.lemmas.Str.Ascii.{encode_ascii}
+use Rattle.std.proofs.Common.{◌≡◌, ◌/◌, ◌%◌, get_or, ap, ap₂, ◌∙◌, subst, arith, string_bytes, IfSome}
+use Rattle.std.specs.Fmt.{option_append, styled_digits_output}
+use Rattle.spelling.proofs.Shown.{byte_shown}
 use Rattle.spelling.proofs.Spelled.{made_map}
 use Rattle.spelling.proofs.kinds.LabelsWritten.show.Goals as goal
 
-one : (c v : ℕ) → c ≡ v → c < 128 → encode c ≡ v ∷ []
-one c v e small = encode_ascii c small ∙ ap (λ x. x ∷ []) e
-
 pub returns : goal.returns
 returns c =
-    let a = one _ _ c.digit-a.ensures.is c.digit-a.ensures.ascii in
-    let b = one _ _ c.digit-b.ensures.is c.digit-b.ensures.ascii in
-    let d = one _ _ c.digit-c.ensures.is c.digit-c.ensures.ascii in
-    let e = one _ _ c.digit-d.ensures.is c.digit-d.ensures.ascii in
-    made_map c.format.result (λ s m. m ∙ ap₂ (λ x y. x ++ y) a (ap₂ (λ x y. x ++ y) b (ap₂ (λ x y. x ++ y) d e))) c.format.ensures.ok
+    let flags = c.args.self.flags in
+    let high : get_or c.to_be_bytes.result 0 0 ≡ flags / 256 = ap (λ t. get_or t 0 0) c.to_be_bytes.ensures ∙ omega arith in
+    let low : get_or c.to_be_bytes.result 1 0 ≡ flags % 256 = ap (λ t. get_or t 1 0) c.to_be_bytes.ensures in
+    let a = ap (styled_digits_output c.in_radix.result) c.laid_out.ensures ∙ byte_shown _ _ _ high (omega arith) c.in_radix.ensures in
+    let b = ap (styled_digits_output c.in_radix-2.result) c.laid_out-2.ensures ∙ byte_shown _ _ _ low (omega arith) c.in_radix-2.ensures in
+    made_map c.format.result (λ s m. subst (λ o. IfSome o (λ bs. string_bytes s ≡ bs)) (ap₂ option_append a b) m) c.format.ensures.ok
