@@ -48,7 +48,7 @@ module _ (K : Kind) {X : Type 0} (m : X → K.Level) (C : Criterion) (s : Settin
 
   module _ (block : List X) (h : History K.Level) where
     -- a refused call leaves what stood
-    refused_keeps : (o : Option Open) (c : Call K.Level) (r : Refusal) → defined K C s h c ≡ refused r → Behind K m C s o block h → Behind K m C s o block (event c (refused r) ∷ h)
+    pub refused_keeps : (o : Option Open) (c : Call K.Level) (r : Refusal) → defined K C s h c ≡ refused r → Behind K m C s o block h → Behind K m C s o block (event c (refused r) ∷ h)
     refused_keeps o c r q b = record { can = (b.can, sym q); room = b.room; stands = b.stands }
 
     -- what is behind a cell is behind the same

@@ -169,7 +169,7 @@ impl<'a, S: Setup> Cell<'a, S> {
         requires { at + length out.old ≤ length self.now.block.now }
         ensures { Got at self.now.block.now out.new }
     {
-        out.copy_from_slice(&self.block[at..at + out.len()]);
+        get(self.block, at, out);
     }
 
     // Copies the finished plane to the output, and ends the run.
@@ -233,7 +233,19 @@ fn put<L: Level>(block: &mut [L], frame: &[L])
     requires { length frame.now ≤ length block.old }
     ensures { Put frame.now block.old block.new }
 {
-    block[..frame.len()].copy_from_slice(frame);
+    for i in 0..frame.len() {
+        block[i] = frame[i];
+    }
+}
+
+// Copies levels of the block out.
+fn get<L: Level>(block: &[L], at: usize, out: &mut [L])
+    requires { at + length out.old ≤ length block.now }
+    ensures { Got at block.now out.new }
+{
+    for i in 0..out.len() {
+        out[i] = block[at + i];
+    }
 }
 
 // Does the next record.

@@ -25,7 +25,7 @@ module _ (n mask : ℕ) (full : all_below (flag mask) n ≡ true) (small : mask 
   kept : (x i : ℕ) → i < n → flag (bit_and x mask) i ≡ flag x i
   kept x i h = flag_and x mask i ∙ (ap (λ b. flag x i && b) (has i h) ∙ and_yes (flag x i))
 
-  clear : (x : ℕ) → bit_and x mask < 2 ^ n
+  pub clear : (x : ℕ) → bit_and x mask < 2 ^ n
   clear x = omega (arith, and_le_r x mask)
 
   pub masked_same : (a b : ℕ) → ((i : ℕ) → i < n → flag a i ≡ flag b i) → bit_and a mask ≡ bit_and b mask

@@ -1,7 +1,7 @@
 -- The table's entries, read from the top down, follow the machine on entries.
-use Rattle.std.proofs.Common.{◌≡◌, ℕ, zero, suc, ◌<◌, ◌≤◌, max, ◌≢◌, List, ◌∷◌, length, get_or, set, sym, refl, ap, ◌∙◌, ap₂, arith, get_or-set_other, get_or-set_same}
+use Rattle.std.proofs.Common.{◌≡◌, ℕ, zero, suc, ◌<◌, ◌≤◌, max, true, ◌≢◌, List, ◌∷◌, length, get_or, set, sym, refl, ap, ◌∙◌, ap₂, arith, get_or-set_other, get_or-set_same}
 use Rattle.recipe.specs.declared.entry.Entry.{Entry}
-use Rattle.recipe.specs.Steps.{Change, Merge, Form, start, change, merge, wants}
+use Rattle.recipe.specs.Steps.{Change, Merge, Form, start, change, merge, wants, adds}
 use Rattle.recipe.specs.Machines.{by_form, stepped}
 use Rattle.recipe.specs.Plans.{Progress, grown}
 use Rattle.recipe.specs.declared.step.Step.{Step}
@@ -52,3 +52,9 @@ pub grown_is :
 grown_is x es d p es' d' p' e h =
     let q = h ∙ ap (max p) (sym (top_down_length es' d') ∙ ap length e) in
     λ i. record { entries = e i; planes = q i }
+
+-- what wants no plane adds one
+pub adds_one : (f : Form) → wants f ≡ 0 → adds f ≡ true
+adds_one start w = refl
+adds_one (change c) w = absurd (let z : ⊥ = omega arith in z)
+adds_one (merge m) w = absurd (let z : ⊥ = omega arith in z)

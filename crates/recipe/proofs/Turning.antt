@@ -9,7 +9,7 @@ pub record Turns (n b t : ℕ) : Type 0 where
   pub narrow : t < 2 ^ b
   pub same : (j : ℕ) → j < b → bits t j ≡ bits n (b - 1 - j)
 
-turns_none : (n : ℕ) → Turns n 0 0
+pub turns_none : (n : ℕ) → Turns n 0 0
 turns_none n = record { narrow = omega arith; same = λ j l. absurd (not-suc-le-zero l) }
 
 above : (t c j : ℕ) → c < 2 → (t * 2 + c) / 2 ^ (1 + j) ≡ t / 2 ^ j
@@ -17,7 +17,7 @@ above t c j l =
     let half : (t * 2 + c) / 2 ^ 1 ≡ t = omega arith in
     sym (shr-shr (t * 2 + c) 1 j) ∙ ap (λ x. x / 2 ^ j) half
 
-turns_more : (n b t : ℕ) → Turns n b t → Turns n (b + 1) (t * 2 + n / 2 ^ b % 2)
+pub turns_more : (n b t : ℕ) → Turns n b t → Turns n (b + 1) (t * 2 + n / 2 ^ b % 2)
 turns_more n b t h = record {
   narrow = omega (arith, pow-add 2 b 1, mod_below (n / 2 ^ b) 2 (omega arith), h.narrow);
   same = bit;

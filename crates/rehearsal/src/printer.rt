@@ -5,8 +5,8 @@ ghost use Rattle.transcripts.specs.Texts.{unserved_text};
 
 use spelling::words::Spaces;
 use std::alloc::AllocError;
-use std::io;
-use transcripts::reply::Trouble;
+use std::{fmt, io};
+use transcripts::reply::{LineTrouble, Trouble};
 use transcripts::teller::Teller;
 
 // Prints what it is told.
@@ -26,13 +26,13 @@ impl Teller for Printer<'_> {
 
     ghost misses = { λ line text. text ≡ unserved_text line (NoMemory alloc_error) };
 
-    fn tell(&mut self, text: &str) -> io::Result<()> {
-        print!(self.rt; "{text}")
+    fn tell<D: fmt::Display + Drop>(&mut self, said: D) -> io::Result<()> {
+        print!(self.rt; "{said}")
     }
 
     fn miss(&mut self, line: usize, want: AllocError) -> io::Result<()> {
         let trouble = Trouble::NoMemory(want);
-        println!(self.rt; "line {line}: {trouble}")
+        self.tell(LineTrouble { line, trouble })
     }
 
     ghost joins = { λ _ _ _ _ _ _ _. tt };

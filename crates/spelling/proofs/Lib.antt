@@ -1,4 +1,4 @@
-mod Spelled
+pub mod Spelled
 mod Shown
 mod Parting
 mod Reading

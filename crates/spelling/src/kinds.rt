@@ -76,8 +76,8 @@ impl Written for Labels {
     }
 
     fn show(self, heap: Global) -> Result<String, AllocError> {
-        let [high, low] = self.flags.to_be_bytes();
-        format!(in heap; "{high:02X}{low:02X}")
+        let flags = self.flags;
+        format!(in heap; "{flags:04X}")
     }
 }
 

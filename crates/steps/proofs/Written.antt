@@ -1,8 +1,8 @@
 -- A loop that writes n levels of a block one after the other.
-use Rattle.std.proofs.Common.{◌≡◌, ℕ, ◌+◌, ◌*◌, ◌<◌, ◌≤◌, ◌≢◌, List, length, get_or, set, sym, refl, ap, ◌∙◌, subst, ⊎_elim, arith, below_more, rules}
+use Rattle.std.proofs.Common.{◌≡◌, ℕ, ◌+◌, ◌*◌, ◌<◌, ◌≤◌, ◌≢◌, List, length, get_or, set, sym, refl, ap, ◌∙◌, subst, inl, inr, ⊎_elim, arith, below_more, rules}
 use Rattle.std.proofs.lemmas.Bool.{cases_lt}
 use Rattle.std.proofs.lemmas.Nat.{mul-le}
-use Rattle.std.proofs.lemmas.List.{get_or-set_same, get_or-set_other, places as by_places}
+use Rattle.std.proofs.lemmas.List.{get_or-set_same, get_or-set_other, get_or_read, places as by_places}
 use borrow.Rule.Slice.PartMut.{mid_of, put_mid}
 use Rattle.level.specs.Kind.{Kind}
 use Rattle.steps.specs.Images.{Size, Place, Inside, Image}
@@ -33,6 +33,14 @@ module _ {X : Type 0} {wanted : X → ℕ → X → Type 0} {to n : ℕ} {before
     kept = λ k d out. let ne : k ≢ to + i = (λ e. out (omega arith) (omega arith)) in get_or-set_other now (to + i) k r d ne ∙ was.kept k d out;
   }
 
+  -- a level that is read where the loop has not yet written
+  pub read_rest : (i : ℕ) (now : List X) (a d : X) → Partly wanted to n before i now → to + i < length now → a ≡ get_or now (to + i) a → a ≡ get_or before (to + i) d
+  read_rest i now a d was room e = get_or_read now (to + i) a room e d ∙ was.rest i d (omega arith)
+
+  -- a level that is read outside the part that the loop writes
+  pub read_kept : (i j : ℕ) (now : List X) (a d : X) → Partly wanted to n before i now → j < length now → Outside to n j → a ≡ get_or now j a → a ≡ get_or before j d
+  read_kept i j now a d was room out e = get_or_read now j a room e d ∙ was.kept j d out
+
 -- Where a place's level stands.
 pub row_fits : (w h r : ℕ) → r < h → r * w + w ≤ w * h
 row_fits w h r lt = omega (arith, mul-le (r + 1) w h w (omega arith) (omega arith))
@@ -48,6 +56,9 @@ holds_kept K m s at to n before after f out kept held p d i = ap m (kept (at + i
 -- two parts that do not overlap
 pub apart_out : (long from to m n : ℕ) → Apart long from m to n → (k : ℕ) → k < m → Outside to n (from + k)
 apart_out long from to m n p k lt = ⊎_elim (λ l. omega arith) (λ l. omega arith) p.apart
+
+pub apart_back : (long a m b n : ℕ) → Apart long a m b n → Apart long b n a m
+apart_back long a m b n p = record { first = p.second; second = p.first; apart = ⊎_elim inr inl p.apart }
 
 -- A part of a block that a loop writes through a loan of its own.
 module _ {X : Type 0} (at n : ℕ) (block part : List X) (fits : at + n ≤ length block) where

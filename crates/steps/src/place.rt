@@ -48,12 +48,13 @@ impl Place {
         requires { b < 25 }
         ensures { MatchOption result ((offsets element b && lands (size_of self.extent) (place_of self) b) ≡ false) (λ p. ((offsets element b && lands (size_of self.extent) (place_of self) b) ≡ true) × (size_of p.extent ≡ size_of self.extent) × (place_of p ≡ moved (place_of self) b)) }
     {
+        // First what most offsets fail: this runs for every look of a selection.
+        if !element.has(b) {
+            return None;
+        }
         let column = self.column + b % 5;
         let row = self.row + b / 5;
-        if element.has(b)
-            & is_among(self.extent.width, column)
-            & is_among(self.extent.height, row)
-        {
+        if is_among(self.extent.width, column) & is_among(self.extent.height, row) {
             Some(Place {
                 extent: self.extent,
                 column: column - 2,

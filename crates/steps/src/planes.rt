@@ -16,7 +16,10 @@ pub fn copy<L: Level>(block: &mut [L], from: usize, to: usize, n: usize)
     requires { Apart (length block.old) from n to n }
     ensures { Copied from to n block.old block.new }
 {
-    block.copy_within(from..from + n, to);
+    // By index: `copy_within` would have the archives for C want `memmove` from outside.
+    for i in 0..n {
+        block[to + i] = block[from + i];
+    }
 }
 
 // Writes one level n times.

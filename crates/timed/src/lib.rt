@@ -8,7 +8,7 @@ ghost use Rattle.recipe.specs.Elements.{bits, is_element};
 ghost use Rattle.rule.specs.Variance.{least_variance};
 ghost use Rattle.steps.specs.Images.{folded};
 ghost use Rattle.steps.specs.Selections.{selected};
-ghost use Rattle.steps.specs.Planes.{Made, Changed};
+ghost use Rattle.steps.specs.Planes.{Made, Changed, places};
 ghost use Rattle.timed.specs.Frames.{frame};
 
 use level::side::Side;
@@ -30,8 +30,8 @@ const PLANE: usize = FRAME.width * FRAME.height;
 // Erodes the first plane of the block into the second, by the element of a mask. A block too short, or a mask of no element, is left alone.
 #[unsafe(no_mangle)]
 pub extern "C" fn erode_frame(block: &mut [u8], mask: u32)
-    ensures made { 2 * PLANE ≤ length block.old → is_element mask ≡ true → Made greys grey frame (folded greys frame Low (bits mask)) 0 PLANE block.old block.new }
-    ensures short { length block.old < 2 * PLANE → block.new ≡ block.old }
+    ensures made { 2 * places frame ≤ length block.old → is_element mask ≡ true → Made greys grey frame (folded greys frame Low (bits mask)) 0 (places frame) block.old block.new }
+    ensures short { length block.old < 2 * places frame → block.new ≡ block.old }
     ensures empty { is_element mask ≡ false → block.new ≡ block.old }
 {
     if block.len() < 2 * PLANE {
@@ -45,8 +45,8 @@ pub extern "C" fn erode_frame(block: &mut [u8], mask: u32)
 // Selects by least variance in the first plane of the block, through the second, by the element of a mask. A block too short, or a mask of no element, is left alone.
 #[unsafe(no_mangle)]
 pub extern "C" fn select_frame(block: &mut [u8], mask: u32)
-    ensures made { 2 * PLANE ≤ length block.old → is_element mask ≡ true → Changed greys grey frame (selected greys frame least_variance Low (bits mask)) 0 PLANE block.old block.new }
-    ensures short { length block.old < 2 * PLANE → block.new ≡ block.old }
+    ensures made { 2 * places frame ≤ length block.old → is_element mask ≡ true → Changed greys grey frame (selected greys frame least_variance Low (bits mask)) 0 (places frame) block.old block.new }
+    ensures short { length block.old < 2 * places frame → block.new ≡ block.old }
     ensures empty { is_element mask ≡ false → block.new ≡ block.old }
 {
     if block.len() < 2 * PLANE {

@@ -6,4 +6,5 @@ mod put;
 pub mod reply;
 mod serve;
 pub mod session;
+mod tell;
 pub mod teller;

@@ -6,7 +6,6 @@ ghost use Rattle.transcripts.specs.Texts.{reply_text, trouble_text, unserved_tex
 use cell::calls::Stepped;
 use commands::command::Unread;
 use report::verdict::Verdict;
-use spelling::levels;
 use spelling::written::Written;
 use std::alloc::{AllocError, AllocFailed, Global};
 use std::error::Error;
@@ -85,11 +84,28 @@ impl fmt::Display for Trouble {
 
 impl Error for Trouble {}
 
+// Why the line of a number is not served.
+#[derive(Clone, Copy, Debug, PartialEq, Eq)]
+pub struct LineTrouble {
+    pub line: usize,
+    pub trouble: Trouble,
+}
+
+impl fmt::Display for LineTrouble {
+    ghost output = { λ x. Some (unserved_text x.line x.trouble) };
+
+    fn fmt<W: fmt::Write>(&self, f: &mut fmt::Formatter<W>) -> fmt::Result {
+        let line = self.line;
+        let trouble = self.trouble;
+        write!(f, "line {line}: {trouble}\n")
+    }
+}
+
 // Says why a line is not served.
 pub fn unserved(heap: Global, line: usize, trouble: Trouble) -> Result<String, AllocError>
     ensures { IfOk result (λ s. string_bytes s ≡ unserved_text line trouble) }
 {
-    format!(in heap; "line {line}: {trouble}\n")
+    LineTrouble { line, trouble }.to_string(heap)
 }
 
 impl<L: Written> Reply<L> {
@@ -97,19 +113,8 @@ impl<L: Written> Reply<L> {
     pub fn text(self, heap: Global, width: usize) -> Result<String, AllocError>
         ensures { IfOk result (λ s. string_bytes s ≡ reply_text L.Written.text width self) }
     {
-        match self {
-            Reply::Told(verdict) => format!(in heap; "{verdict}\n"),
-            Reply::Laid => String::from_str(heap, "laid\n"),
-            Reply::Done(stepped) => {
-                let done = stepped.done;
-                let left = stepped.left;
-                format!(in heap; "done {done} left {left}\n")
-            }
-            Reply::Image(image) => {
-                let rows = levels::rows(heap, width, &image)?;
-                format!(in heap; "{rows}\n")
-            }
-            Reply::Cleared => String::from_str(heap, "cleared\n"),
-        }
+        let mut text = String::new(heap);
+        self.tell(heap, &mut text, width)?;
+        Ok(text)
     }
 }

@@ -8,7 +8,7 @@ ghost use Rattle.transcripts.specs.Transcripts.{Bare, Celled, Headed, Lines, Mis
 
 use crate::line::Start;
 use crate::put::blank;
-use crate::reply::{Trouble, unserved};
+use crate::reply::{LineTrouble, Trouble};
 use crate::serve::Serving;
 use crate::teller::Teller;
 use cell::laws::promises_kept;
@@ -28,8 +28,9 @@ impl<T: Teller> Serving<'_, T> {
         ensures same { self.new.teller.ghost_name ≡ self.old.teller.ghost_name }
         ensures served { IfOk result (λ next. (text : List ℕ) × T.tells self.old.teller.now self.new.teller.now text × Headed (Lines T.Words.cut (Served T.misses Bare) tt (start.line + 1) (map vec_items (drop start.line self.old.lines.now))) (unserved_text start.line TooLong) text next) }
     {
-        let head = unserved(self.heap, start.line, Trouble::TooLong)?;
-        self.teller.tell(head.as_str())?;
+        let line = start.line;
+        let trouble = Trouble::TooLong;
+        self.teller.tell(LineTrouble { line, trouble })?;
         self.bare_lines(start.line)
     }
 

@@ -1,8 +1,10 @@
 // Where the answers to a script's lines go.
-ghost use Rattle.std.specs.Prelude.{◌≡◌, ℕ, List, [], ◌++◌, OnOk, string_bytes};
+ghost use Rattle.std.specs.Prelude.{◌≡◌, ℕ, List, [], ◌++◌, IfSome, OnOk, string_bytes};
 
 use spelling::words::{Parting, WhiteSpace};
 use std::alloc::AllocError;
+use std::fmt;
+use std::fmt::Write;
 
 // Something that the answers to a script's lines are told to, in order.
 pub trait Teller {
@@ -17,9 +19,9 @@ pub trait Teller {
     // What is told in place of a line that there is no memory for.
     ghost misses: { ℕ → List ℕ → Type 0 };
 
-    // Tells a text.
-    fn tell(&mut self, text: &str) -> Result<(), Self::Fault>
-        ensures { OnOk result (tells self.old self.new text.now) };
+    // Tells what is said.
+    fn tell<D: fmt::Display + Drop>(&mut self, said: D) -> Result<(), Self::Fault>
+        ensures { OnOk result (IfSome (D.Display.output said) (tells self.old self.new)) };
 
     // Tells that there is no memory for a line, or hands the want of it on.
     fn miss(&mut self, line: usize, want: AllocError) -> Result<(), Self::Fault>
@@ -44,8 +46,8 @@ impl Teller for String {
 
     ghost misses = { λ _ _. ⊥ };
 
-    fn tell(&mut self, text: &str) -> Result<(), AllocError> {
-        self.push_str(text)
+    fn tell<D: fmt::Display + Drop>(&mut self, said: D) -> Result<(), AllocError> {
+        write!(self, "{said}")
     }
 
     fn miss(&mut self, _line: usize, want: AllocError) -> Result<(), AllocError> {

@@ -1,4 +1,3 @@
-use Rattle.std.proofs.Common.{◌∙◌, subst}
 use Rattle.transcripts.specs.declared.reply.Trouble.TheVariants.{TooLong}
 use Rattle.transcripts.specs.Texts.{unserved_text}
 use Rattle.transcripts.proofs.Telling.{after_head}
@@ -7,5 +6,5 @@ use Rattle.transcripts.proofs.serve.Serving.unmade.Goals as goal
 pub returns-clause-served : goal.returns-clause-served
 returns-clause-served g c =
     after_head g.T.Teller.tells g.met.T.Teller.joins c.args.self.now.teller.now c.tell.new.self c.bare_lines.new.self.teller.now (unserved_text c.args.start.line TooLong) _ c.bare_lines.result
-    (subst (g.T.Teller.tells c.args.self.now.teller.now c.tell.new.self) (c.as_str.ensures.value ∙ c.in_ok-head.ensures) c.in_ok-tell.ensures)
+    c.in_ok-tell.ensures
     c.bare_lines.ensures.served

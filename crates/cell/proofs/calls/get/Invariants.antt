@@ -1,0 +1,6 @@
+use Rattle.std.proofs.Common.{◌+◌, get_or}
+use Rattle.cell.proofs.Moving.{Written}
+use Rattle.cell.proofs.calls.get.Given as goal
+
+abbrev pub invariant-loop-i : goal.invariant-loop-i
+invariant-loop-i g l = Written (λ k d. get_or l.block (l.at + k) d) l.initial.out l.i l.out
