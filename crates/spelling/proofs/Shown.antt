@@ -68,5 +68,5 @@ four_padded n small = ap padded (all_digits n) ∙ ⊎_elim one (λ l. ⊎_elim 
         ∙ (pad_four _ _ _ _ ∙ four_of n (n / 16 / 16 / 16 % 16) (n / 16 / 16 % 16) (n / 16 % 16) (n % 16) (omega arith) (omega arith) (omega arith) (omega arith))
 
 -- what `{:04X}` writes of sixteen flags
-pub flags_shown : (o : Option (List ℕ)) (n : ℕ) → n < 65536 → o ≡ Some (digits 16 true n) → option_map (padded_integral (format_spec 32 0 4 4 (2 ^ 64 - 1)) false []) o ≡ Some (four_digits n)
-flags_shown o n small is = ap (option_map (padded_integral (format_spec 32 0 4 4 (2 ^ 64 - 1)) false [])) is ∙ ap Some (four_padded n small)
+pub flags_shown : (o : Option (List ℕ)) (n flags : ℕ) → o ≡ Some (digits 16 true n) → n ≡ flags → flags < 65536 → option_map (padded_integral (format_spec 32 0 4 4 (2 ^ 64 - 1)) false []) o ≡ Some (four_digits flags)
+flags_shown o n flags is same small = ap (option_map (padded_integral (format_spec 32 0 4 4 (2 ^ 64 - 1)) false [])) (is ∙ ap (λ k. Some (digits 16 true k)) same) ∙ ap Some (four_padded flags small)

@@ -5,7 +5,14 @@ use Rattle.transcripts.proofs.Lining.{rest_lines, line_there, lines_done, so_far
 use Rattle.transcripts.proofs.serve.Serving.bare_lines.Goals as goal
 
 pub loop-i-init : goal.loop-i-init
-loop-i-init g c = ((refl, refl, (rest_lines c.args.from c.args.self.now.lines.now c.in-Some.rest.now c.in-Some.ensures.lookup.0.2)), ([], g.met.T.Teller.starts c.args.self.now.teller.now, so_far_none g.T.Words.Parting.cut (Served g.T.Teller.misses Bare) vec_items c.args.self.now.lines.now tt c.args.from [] refl))
+loop-i-init g c = (
+  (refl, refl, rest_lines c.args.from c.args.self.now.lines.now c.in-Some.rest.now c.in-Some.ensures.lookup.0.2),
+  (
+    [],
+    g.met.T.Teller.starts c.args.self.now.teller.now,
+    so_far_none g.T.Words.Parting.cut (Served g.T.Teller.misses Bare) vec_items c.args.self.now.lines.now tt c.args.from [] refl,
+  ),
+)
 
 pub returns-in-Some-making-clause-served : goal.returns-in-Some-making-clause-served
 returns-in-Some-making-clause-served g c =
